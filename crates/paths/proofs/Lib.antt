@@ -1,0 +1,13 @@
+pub mod Listed
+pub mod Counted
+pub mod Canon
+pub mod Above
+pub mod Steps
+pub mod Unique
+pub mod Turn
+pub mod Cut
+pub mod Ancestors
+pub mod Top
+pub mod Links
+pub mod LinkTotal
+pub mod Common

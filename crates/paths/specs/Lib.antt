@@ -1,0 +1,4 @@
+pub mod Walk
+pub mod Tree
+pub mod Rooted
+pub mod Route
