@@ -1,0 +1,5 @@
+pub mod Frames
+pub mod Neighbours
+pub mod Bits
+pub mod Judging
+pub mod Limits

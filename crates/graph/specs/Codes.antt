@@ -1,0 +1,29 @@
+-- 01, "Codes": the table's numbers by their names.
+use Prim.Native.Nat.{ℕ}
+
+abbrev pub done : ℕ
+done = 0
+
+abbrev pub badSize : ℕ
+badSize = 1
+
+abbrev pub noRoom : ℕ
+noRoom = 2
+
+abbrev pub badOffsets : ℕ
+badOffsets = 3
+
+abbrev pub badVertex : ℕ
+badVertex = 4
+
+abbrev pub badRoot : ℕ
+badRoot = 5
+
+abbrev pub notSymmetric : ℕ
+notSymmetric = 6
+
+abbrev pub disconnected : ℕ
+disconnected = 7
+
+abbrev pub hasCycle : ℕ
+hasCycle = 8

@@ -1,0 +1,86 @@
+// The list of a vertex, and the tests of sizes, offsets and targets.
+use crate::codes::MAX_TARGETS;
+use crate::codes::MAX_VERTICES;
+ghost use mathlib.Core.Path.{_≡_};
+ghost use mathlib.Core.List.{[]};
+ghost use Prim.Native.Nat.{_≤_};
+ghost use Rattle.graph.specs.Judgement.{Decides};
+ghost use Rattle.graph.specs.Lent.{vertices, listOf, Offsets, Targets};
+ghost use Rattle.graph.specs.Validation.{Sized};
+
+// The empty part of a slice.
+fn none(targets: &[u32]) -> &[u32]
+    ensures { λ r. ⌜ now r ≡ [] ⌝ }
+{
+    &targets[..0]
+}
+
+// The list of the vertex u as a part of the caller's targets: the targets from offset u up to offset u + 1, and empty where u or its
+// offsets are out of range or fall.
+pub fn neighbours<'a>(offsets: &[u32], targets: &'a [u32], u: usize) -> &'a [u32]
+    ensures { λ r. ⌜ now r ≡ listOf (now (offsets .entry)) (now (targets .entry)) u ⌝ }
+{
+    if offsets.len() <= u {
+        return none(targets);
+    }
+    if offsets.len() <= u + 1 {
+        return none(targets);
+    }
+    let from = offsets[u] as usize;
+    let to = offsets[u + 1] as usize;
+    if to < from {
+        return none(targets);
+    }
+    if targets.len() < to {
+        return none(targets);
+    }
+    &targets[from..to]
+}
+
+// Whether the numbers of vertices and of targets are within their limits.
+pub fn sized(offsets: &[u32], targets: &[u32]) -> bool
+    ensures { λ r. ⌜ Decides (Sized (now (offsets .entry)) (now (targets .entry))) r ⌝ }
+{
+    if offsets.len() < 2 {
+        return false;
+    }
+    if MAX_VERTICES < offsets.len() - 1 {
+        return false;
+    }
+    targets.len() <= MAX_TARGETS
+}
+
+// Whether the first offset is 0, no offset falls and the last is the number of targets.
+pub fn sound_offsets(offsets: &[u32], targets: &[u32]) -> bool
+    requires { ⌜ 1 ≤ vertices (now offsets) ⌝ }
+    ensures { λ r. ⌜ Decides (Offsets (now (offsets .entry)) (now (targets .entry))) r ⌝ }
+{
+    let n = offsets.len() - 1;
+    if offsets[0] != 0 {
+        return false;
+    }
+    let mut u: usize = 0;
+    while u < n {
+        if offsets[u + 1] < offsets[u] {
+            return false;
+        }
+        u += 1;
+    }
+    offsets[n] as usize == targets.len()
+}
+
+// Whether every target is a vertex.
+pub fn sound_targets(offsets: &[u32], targets: &[u32]) -> bool
+    requires { ⌜ 1 ≤ vertices (now offsets) ⌝ }
+    ensures { λ r. ⌜ Decides (Targets (now (offsets .entry)) (now (targets .entry))) r ⌝ }
+{
+    let n = offsets.len() - 1;
+    let mut e: usize = 0;
+    while e < targets.len() {
+        if n <= targets[e] as usize {
+            return false;
+        }
+        e += 1;
+    }
+    true
+}
