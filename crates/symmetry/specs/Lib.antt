@@ -1,0 +1,2 @@
+pub mod Symmetry
+pub mod Inner
