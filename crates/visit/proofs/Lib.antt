@@ -1,0 +1,5 @@
+pub mod Growing
+pub mod Looking
+pub mod Going
+pub mod Positions
+pub mod Edges
