@@ -1,0 +1,63 @@
+// Tree validation: a graph is accepted exactly when it is a tree.
+use graph::codes::BAD_OFFSETS;
+use graph::codes::BAD_ROOT;
+use graph::codes::BAD_SIZE;
+use graph::codes::BAD_VERTEX;
+use graph::codes::DISCONNECTED;
+use graph::codes::DONE;
+use graph::codes::HAS_CYCLE;
+use graph::codes::NO_ROOM;
+use graph::codes::NOT_SYMMETRIC;
+use graph::lists::sized;
+use graph::lists::sound_offsets;
+use graph::lists::sound_targets;
+use graph::work::zero;
+use symmetry::symmetric;
+use visit::visit;
+ghost use Rattle.graph.specs.Validation.{Validates};
+ghost use Rattle.validate.specs.Judged.{JudgeAsks, Judged};
+
+// The tests 3 to 8 in order, for a graph within its limits and work that is long enough. After DONE a visit from the root stands in work,
+// from index 0 on. The symmetry test uses the cursors' n entries from 7n on and the E entries behind them.
+pub fn judge(offsets: &[u32], targets: &[u32], root: usize, work: &mut [u32]) -> u32
+    requires { ⌜ JudgeAsks (now offsets) (now targets) (now work) ⌝ }
+    ensures { λ r. ⌜ Judged (now (offsets .entry)) (now (targets .entry)) root (now (work .entry)) (now (work .exit)) r ⌝ }
+{
+    let n = offsets.len() - 1;
+    if !sound_offsets(offsets, targets) {
+        return BAD_OFFSETS;
+    }
+    if !sound_targets(offsets, targets) {
+        return BAD_VERTEX;
+    }
+    if n <= root {
+        return BAD_ROOT;
+    }
+    if !symmetric(offsets, targets, n, 7 * n, work) {
+        return NOT_SYMMETRIC;
+    }
+    if visit(offsets, targets, n, 0, root, work) < n {
+        return DISCONNECTED;
+    }
+    if targets.len() != 2 * (n - 1) {
+        return HAS_CYCLE;
+    }
+    DONE
+}
+
+// Judges the graph of offsets and targets, seen from root: the code of the first of the tests 1 to 8 that is not passed, and DONE for a tree.
+// Work needs 8n + E entries, which are zero afterwards. Time O(n + E) on every input.
+pub fn validate_tree(offsets: &[u32], targets: &[u32], root: usize, work: &mut [u32]) -> u32
+    ensures { λ r. ⌜ Validates (now (offsets .entry)) (now (targets .entry)) root (now (work .entry)) (now (work .exit)) r ⌝ }
+{
+    if !sized(offsets, targets) {
+        return BAD_SIZE;
+    }
+    let room = 8 * (offsets.len() - 1) + targets.len();
+    if work.len() < room {
+        return NO_ROOM;
+    }
+    let code = judge(offsets, targets, root, work);
+    zero(work, 0, room);
+    code
+}
