@@ -1,0 +1,3 @@
+pub mod Numbering
+pub mod RuleOne
+pub mod Log
