@@ -1,26 +1,27 @@
 -- Laws of judging: a test's answer, and the first test that is not passed.
-use Prim.Native.Nat.{ℕ}
+use Prim.Native.Nat.{ℕ, _≤_}
 use mathlib.Core.Path.{_≡_, refl, sym, _∙_}
 use native.Mathlib.Omega.{arith}
-use mathlib.Core.Logic.{_⊎_, inl, inr}
-use mathlib.Core.Bool.{Bool, true, false}
+use mathlib.Core.Logic.{_⊎_, inl, inr, by-cases}
+use native.Mathlib.Decide.{decLe}
+use mathlib.Core.Bool.{Bool, true, false, true≢false}
 use mathlib.Core.List.{List, [], _∷_}
 use lib.Dec.{leb, eqb}
 use borrow.Author.Tests.{leb-true, leb-false, eqb-true, eqb-false}
+use lib.ListN.{length}
 use Rattle.graph.specs.Judgement.{Test, First, Decides}
-
--- true is not false
-pub true-false : {A : Type 0} → _≡_ {A = Bool} true false → A
-true-false e = absurd (let z : _≡_ {A = ℕ} 0 1 = cc in omega arith)
+use Rattle.graph.specs.Limits.{maxVertices, maxTargets}
+use Rattle.graph.specs.Lent.{vertices}
+use Rattle.graph.specs.Validation.{Sized, Leaves}
 
 pub decides-yes : {P : Type 0} → P → Decides P true
-decides-yes p = record { right = λ e. p; wrong = λ e. true-false e }
+decides-yes p = record { right = λ e. p; wrong = λ e. absurd (true≢false e) }
 
 pub decides-no : {P : Type 0} → (P → ⊥) → Decides P false
-decides-no np = record { right = λ e. true-false (sym e); wrong = λ e. np }
+decides-no np = record { right = λ e. absurd (true≢false (sym e)); wrong = λ e. np }
 
 -- a comparison decides what it is equivalent to
-pub decides-leb : {P : Type 0} (a b : ℕ) → (Prim.Native.Nat._≤_ a b → P) → (P → Prim.Native.Nat._≤_ a b) → Decides P (leb a b)
+pub decides-leb : {P : Type 0} (a b : ℕ) → (a ≤ b → P) → (P → a ≤ b) → Decides P (leb a b)
 decides-leb a b to back = record { right = λ e. to (leb-true a b e); wrong = λ e p. (let h = leb-false a b e in let k = back p in omega arith) }
 
 pub decides-eqb : {P : Type 0} (a b : ℕ) → (a ≡ b → P) → (P → a ≡ b) → Decides P (eqb a b)
@@ -33,3 +34,19 @@ first-one (t ∷ ts) (inl p) (inl q) = p .1 ∙ sym (q .1)
 first-one (t ∷ ts) (inl p) (inr q) = absurd (p .0 (q .0))
 first-one (t ∷ ts) (inr p) (inl q) = absurd (q .0 (p .0))
 first-one (t ∷ ts) (inr p) (inr q) = first-one ts (p .1) (q .1)
+
+-- what a call leaves in work is determined
+pub leaves-one : {sized : Type 0} {room : ℕ} {w w₁ w₂ : List ℕ} → Dec sized → Leaves sized room w w₁ → Leaves sized room w w₂ → w₁ ≡ w₂
+leaves-one {sized} {room} {w} d p q =
+    by-cases d
+    (λ s. by-cases (decLe room (length w)) (λ r. p .zeroed s r ∙ sym (q .zeroed s r)) (λ n. p .kept (λ k. n (k .1)) ∙ sym (q .kept (λ k. n (k .1)))))
+    (λ n. p .kept (λ k. n (k .0)) ∙ sym (q .kept (λ k. n (k .0))))
+
+-- whether the sizes are within their limits
+pub sized? : (os ts : List ℕ) → Dec (Sized os ts)
+sized? os ts =
+    by-cases (decLe 1 (vertices os))
+    (λ a. by-cases (decLe (vertices os) maxVertices)
+    (λ b. by-cases (decLe (length ts) maxTargets) (λ c. yes (record { some-vertex = a; few-vertices = b; few-targets = c })) (λ n. no (λ s. n (s .few-targets))))
+    (λ n. no (λ s. n (s .few-vertices))))
+    (λ n. no (λ s. n (s .some-vertex)))

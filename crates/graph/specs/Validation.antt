@@ -41,11 +41,12 @@ cleared k w = replicate k 0 ++ drop k w
 
 -- "Once the work room was long enough, the first 8n+E entries of work are zero afterwards, on any answer; the rest of work, and all of it before
 -- that test, is unchanged."
-pub record Leaves (os ts w w′ : List ℕ) : Type 0 where
-  pub zeroed : Sized os ts → roomOf os ts ≤ length w → w′ ≡ cleared (roomOf os ts) w
-  pub kept : ((Sized os ts × (roomOf os ts ≤ length w)) → ⊥) → w′ ≡ w
+-- The tests before it are those of size.
+pub record Leaves (sized : Type 0) (room : ℕ) (w w′ : List ℕ) : Type 0 where
+  pub zeroed : sized → room ≤ length w → w′ ≡ cleared room w
+  pub kept : (sized × (room ≤ length w) → ⊥) → w′ ≡ w
 
 -- `validate_tree` with work w answers c and leaves w′
 pub record Validates (os ts : List ℕ) (root : ℕ) (w w′ : List ℕ) (c : ℕ) : Type 0 where
   pub code : First (validation os ts root (length w)) c
-  pub work : Leaves os ts w w′
+  pub work : Leaves (Sized os ts) (roomOf os ts) w w′

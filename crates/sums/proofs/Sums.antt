@@ -15,6 +15,10 @@ pub equal-or-not : {C : Type 0} (a b : ℕ) → (a ≡ b → C) → (a ≢ b →
 equal-or-not a b = by-cases (ℕ-discrete a b)
 
 -- equal numbers pass the test
+-- a number up to t is below it or is t
+pub up-to : {C : Type 0} (j t : ℕ) → j < t + 1 → (j < t → C) → (j ≡ t → C) → C
+up-to j t h below same = equal-or-not j t same (λ ne. below (omega arith))
+
 pub tally-same : (a b : ℕ) → a ≡ b → tally (eqb a b) ≡ 1
 tally-same a b e = ap tally (eq-eqb a b e)
 

@@ -9,7 +9,7 @@ use lib.Dec.{eqb}
 use lib.ListN.{length}
 use borrow.Author.Tests.{eq-eqb, ne-eqb}
 use Rattle.sums.specs.Sum.{at}
-use Rattle.sums.proofs.Sums.{equal-or-not}
+use Rattle.sums.proofs.Sums.{equal-or-not, up-to}
 use Rattle.sums.proofs.Pigeon.{Injective, Maps, injective-le}
 use Rattle.visit.specs.Visit.{Visited}
 use Rattle.visit.specs.Steps.{Seen}
@@ -29,10 +29,6 @@ upd-here f t x = ap (λ (b : Bool). pickℕ b x (f t)) (eq-eqb t t refl)
 pub upd-there : (f : ℕ → ℕ) (t x j : ℕ) → j ≢ t → upd f t x j ≡ f j
 unfolding upd pickℕ
 upd-there f t x j ne = ap (λ (b : Bool). pickℕ b x (f j)) (ne-eqb j t ne)
-
--- a number up to t is below it or is t
-pub up-to : {C : Type 0} (j t : ℕ) → j < t + 1 → (j < t → C) → (j ≡ t → C) → C
-up-to j t h below same = equal-or-not j t same (λ ne. below (omega arith))
 
 -- f′ is f with x at t, as far as t
 pub record Grown (t x : ℕ) (f f′ : ℕ → ℕ) : Type 0 where

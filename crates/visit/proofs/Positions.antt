@@ -133,3 +133,24 @@ module _ {n : ℕ} {A : ℕ → List ℕ} {root : ℕ} {q p e : ℕ → ℕ} {t 
   -- all are met where the root reaches all
   pub visit-all : AllReached n A root → n ≤ t
   visit-all r = onto-le t n q (λ v h. walk-met (r v h .0) root v 0 (vis .some) (vis .start) (r v h .1))
+
+-- a visit is told by its positions below t alone
+pub visited-same : {n : ℕ} {A : ℕ → List ℕ} {root : ℕ} {q p e q′ p′ : ℕ → ℕ} {t : ℕ} → ((j : ℕ) → j < t → q′ j ≡ q j) → ((j : ℕ) → 0 < j → j < t → p′ j ≡ p j)
+    → Visited n A root q p e t → Visited n A root q′ p′ e t
+visited-same {n} {A} {root} {q} {p} {e} {q′} {p′} {t} sq sp vis =
+    record {
+      some = vis .some;
+      start = sq 0 (vis .some) ∙ vis .start;
+      below = λ j h. (let a = sq j h in let b = vis .below j h in omega arith);
+      once = λ j l hj hl eq. vis .once j l hj hl (sym (sq j hj) ∙ eq ∙ sq l hl);
+      earlier = λ j a h. (let b = sp j a h in let c = vis .earlier j a h in omega arith);
+      place = λ j a h. subst (λ (x : ℕ). e j < length (A x)) (sym (home j a h)) (vis .place j a h);
+      entry = λ j a h. ap (λ (x : ℕ). at (A x) (e j)) (home j a h) ∙ vis .entry j a h ∙ sym (sq j h);
+      rise = λ j l a b c. (let x = sp j a (omega arith) in let y = sp l (omega arith) c in let z = vis .rise j l a b c in omega arith);
+      in-order = λ j l a b c same. vis .in-order j l a b c (sym (sp j a (omega arith)) ∙ same ∙ sp l (omega arith) c);
+      closed = λ j k h hk. (let r = vis .closed j k h (subst (λ (x : ℕ). k < length (A x)) (sq j h) hk) in
+          (r .0, r .1, sq (r .0) (r .1) ∙ r .2 ∙ sym (ap (λ (x : ℕ). at (A x) k) (sq j h))));
+    }
+  where
+    home : (j : ℕ) → 0 < j → j < t → q′ (p′ j) ≡ q (p j)
+    home j a h = ap q′ (sp j a h) ∙ sq (p j) (let k = vis .earlier j a h in omega arith)
