@@ -1,7 +1,7 @@
 -- The whole part of the logarithm to base 2, as 01's bounds use it.
-use Prim.Native.Nat.{ℕ, zero, suc, _+_, _/_}
+use Prim.Native.Nat.{ℕ, zero, suc, _/_}
 use lib.Dec.{ltb}
-use mathlib.Core.Bool.{Bool, true, false}
+use mathlib.Core.Bool.{true, false}
 
 -- how often n can be halved before it is 1, in at most the given number of steps
 unfoldable pub halvings : ℕ → ℕ → ℕ

@@ -35,11 +35,15 @@ pub record Arranged (n : ℕ) (par dep head id size : ℕ → ℕ) (u : ℕ) (ki
   pub numbers : Numbered id size (id u + 1) kids
   pub chain : Chained head size (head u) kids
 
--- the six tables, as functions of a vertex (`order`: of a number), number the tree from this root; `kids u` are the children of u in the order of
--- their numbers
-pub record Numbering (n root : ℕ) (par dep head id order size : ℕ → ℕ) (kids : ℕ → List ℕ) : Type 0 where
+-- parents, depths, heads, numbers and sizes of the vertices number the tree from this root; `kids u` are the children of u in the order of their
+-- numbers
+pub record Arrangement (n root : ℕ) (par dep head id size : ℕ → ℕ) (kids : ℕ → List ℕ) : Type 0 where
   pub rooted : Rooted n root par dep
   pub root-id : id root ≡ 0
   pub root-head : head root ≡ root
   pub arranged : (u : ℕ) → u < n → Arranged n par dep head id size u (kids u)
+
+-- the six tables, as functions of a vertex (`order`: of a number), number the tree from this root: "`order` inverts `id`"
+pub record Numbering (n root : ℕ) (par dep head id order size : ℕ → ℕ) (kids : ℕ → List ℕ) : Type 0 where
+  pub arrangement : Arrangement n root par dep head id size kids
   pub inverse : (v : ℕ) → v < n → order (id v) ≡ v

@@ -1,0 +1,15 @@
+pub mod Logs
+pub mod Tiles
+pub mod Subtrees
+pub mod Whole
+pub mod Sizes
+pub mod Chains
+pub mod Climbs
+pub mod Leaves
+pub mod Readings
+pub mod Bounds
+pub mod Kept
+pub mod Heaviest
+pub mod ByRule
+pub mod SameTree
+pub mod Same
