@@ -1,0 +1,9 @@
+pub mod Rising
+pub mod Children
+pub mod Carried
+pub mod Tabled
+pub mod Ranks
+pub mod Filling
+pub mod Built
+pub mod Meaning
+pub mod Whole

@@ -1,0 +1,3 @@
+// Heavy-light decomposition: the six tables of a tree.
+pub mod build;
+pub mod scatter;
