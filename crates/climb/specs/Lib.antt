@@ -1,0 +1,5 @@
+pub mod Choice
+pub mod Answers
+pub mod Sound
+pub mod Climbing
+pub mod Queries

@@ -1,0 +1,3 @@
+pub mod Ranges
+pub mod Readings
+pub mod Parts
