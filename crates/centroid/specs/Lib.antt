@@ -1,0 +1,4 @@
+pub mod Components
+pub mod Decomposition
+pub mod Lists
+pub mod Calls

@@ -1,0 +1,50 @@
+-- 01, "Component lists": "for c = 0 to n−1, the vertices of c's component breadth first in list order, each with its distance from c and its branch,
+-- the neighbour of c it hangs from (c itself for c)."
+use Prim.Native.Nat.{ℕ, zero, suc, _+_, _<_}
+use mathlib.Core.Path.{_≡_}
+use mathlib.Core.Bool.{Bool, true, false}
+use mathlib.Core.List.{List, [], _∷_, _++_, map}
+use lib.Dec.{eqb}
+use lib.ListN.{length}
+use Rattle.sums.specs.Sum.{at, sum}
+use Rattle.paths.specs.Walk.{Stands}
+use Rattle.paths.specs.Rooted.{Spans}
+use Rattle.paths.specs.Route.{ptail}
+use Rattle.numbering.specs.RuleOne.{keep}
+use Rattle.centroid.specs.Components.{componentOf}
+use Rattle.centroid.specs.Decomposition.{DecompositionOf}
+
+-- the neighbours of x that are in the component C and one step farther from c than x, in list order
+abbrev pub onward : (A : ℕ → List ℕ) (way : ℕ → ℕ → List ℕ) (C : ℕ → Bool) → ℕ → ℕ → List ℕ
+onward A way C c x = keep (λ y. elim (C y) [ true ↦ eqb (length (way c y)) (suc (length (way c x))) | false ↦ false ]) (A x)
+
+abbrev pub onwards : (A : ℕ → List ℕ) (way : ℕ → ℕ → List ℕ) (C : ℕ → Bool) → ℕ → List ℕ → List ℕ
+onwards A way C c [] = []
+onwards A way C c (x ∷ q) = onward A way C c x ++ onwards A way C c q
+
+-- breadth first in list order: c, and then what each entry of the list leads on to, in turn
+abbrev pub Breadth : (A : ℕ → List ℕ) (way : ℕ → ℕ → List ℕ) (C : ℕ → Bool) → ℕ → List ℕ → Type 0
+Breadth A way C c q = q ≡ c ∷ onwards A way C c q
+
+-- the second vertex on the path from c to x, and c for c itself
+abbrev pub branchOf : (way : ℕ → ℕ → List ℕ) → ℕ → ℕ → ℕ
+branchOf way c x = elim (way c x) [ [] ↦ c | (y ∷ l) ↦ y ]
+
+-- the lists of the centroids 0 to k − 1 one behind the other
+abbrev pub joined : (ℕ → List ℕ) → ℕ → List ℕ
+joined f zero = []
+joined f (suc k) = joined f k ++ f k
+
+-- vertices, distances, branches and starts of the tree with the lists A; q c is c's component breadth first
+pub record ListsOf (n : ℕ) (A : ℕ → List ℕ) (vertices distances branches starts : List ℕ) : Type 0 where
+  pub up : List ℕ
+  pub level : List ℕ
+  pub decomposition : DecompositionOf n A up level
+  pub q : ℕ → List ℕ
+  pub breadth : (par dep : ℕ → ℕ) → Spans n (Stands A) 0 par dep → (c : ℕ) → c < n
+      → Breadth A (ptail par dep) (componentOf (ptail par dep) (at level) c) c (q c)
+  pub all-vertices : vertices ≡ joined q n
+  pub all-distances : (par dep : ℕ → ℕ) → Spans n (Stands A) 0 par dep → distances ≡ joined (λ c. map (λ x. length (ptail par dep c x)) (q c)) n
+  pub all-branches : (par dep : ℕ → ℕ) → Spans n (Stands A) 0 par dep → branches ≡ joined (λ c. map (branchOf (ptail par dep) c) (q c)) n
+  pub starts-long : length starts ≡ n + 1
+  pub all-starts : (c : ℕ) → c < n + 1 → at starts c ≡ length (joined q c)

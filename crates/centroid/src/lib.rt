@@ -1,0 +1,1 @@
+// Centroid decomposition and component lists.

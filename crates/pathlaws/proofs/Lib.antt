@@ -1,0 +1,14 @@
+pub mod Standing
+pub mod Meetings
+pub mod SingleEntries
+pub mod KthAncestor
+pub mod AlongPaths
+pub mod Jumps
+pub mod Lca
+pub mod Tests
+pub mod Sides
+pub mod SubtreeSizes
+pub mod Refusals
+pub mod SimplePaths
+pub mod ReRooted
+pub mod Moves

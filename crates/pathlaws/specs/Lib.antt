@@ -1,0 +1,3 @@
+pub mod Given
+pub mod Meeting
+pub mod NeverNine

@@ -1,0 +1,1 @@
+// What queries answer on a heavy-chain numbering: theorems in proofs/. This crate has no code.
