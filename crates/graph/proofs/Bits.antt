@@ -3,19 +3,20 @@ use Prim.Native.Nat.{ℕ, zero, suc, _+_, _-_, _*_, _≤_, _<_, _/_, _%_, _^_}
 use native.Mathlib.Omega.{arith}
 use native.Mathlib.Nat.{div-eq-of-lt, mod-lt, zero-add}
 use mathlib.Core.Path.{_≡_, refl, sym, ap, _∙_, subst}
-use mathlib.Core.Logic.{_≢_, _⊎_, inl, inr, ⊎-elim}
+use mathlib.Core.Logic.{_≢_}
 use mathlib.Core.List.{List}
 use lib.Dec.{eqb}
 use lib.Bits.{bitAnd, and-mask, bitOr, or-shr, or-mod, or-zero-r, shifted-even}
 use lib.Pow.{pow-lt, pow-add, shl-shr, shl-exact}
 use lib.ListN.{length, set, length-set}
 use Rattle.sums.specs.Sum.{at}
+use Rattle.sums.proofs.Sums.{equal-or-not}
 use Rattle.graph.specs.Marks.{markOf, Marks}
-use Rattle.graph.proofs.Frames.{same-or-not, at-set-same, at-set-other}
+use Rattle.graph.proofs.Frames.{at-set-same, at-set-other}
 
 -- bit j of 2 ^ k, for another j
 power-bit : (j k : ℕ) → j ≢ k → (1 * 2 ^ k) / 2 ^ j % 2 ≡ 0
-power-bit j k ne = ⊎-elim low high (same-or-not (j - k) 0)
+power-bit j k ne = equal-or-not (j - k) 0 low high
   where
     one : (m : ℕ) → 1 * m ≡ m
     one m = omega arith
@@ -39,7 +40,7 @@ or-bit : (a b j : ℕ) → bitOr a b / 2 ^ j % 2 ≡ bitOr (a / 2 ^ j % 2) (b / 
 or-bit a b j = ap (λ (x : ℕ). x % 2) (or-shr a b j) ∙ or-mod (a / 2 ^ j) (b / 2 ^ j) 1
 
 or-one : (b : ℕ) → b < 2 → bitOr b 1 ≡ 1
-or-one b h = ⊎-elim (λ (e : b ≡ 0). ap (λ (x : ℕ). bitOr x 1) e) (λ (ne : b ≢ 0). ap (λ (x : ℕ). bitOr x 1) (let e : b ≡ 1 = omega arith in e)) (same-or-not b 0)
+or-one b h = equal-or-not b 0 (λ e. ap (λ (x : ℕ). bitOr x 1) e) (λ ne. ap (λ (x : ℕ). bitOr x 1) (let e : b ≡ 1 = omega arith in e))
 
 pub set-bit : (a k : ℕ) → bitOr a (1 * 2 ^ k) / 2 ^ k % 2 ≡ 1
 set-bit a k =
@@ -56,14 +57,13 @@ marks-set base v w room =
     record {
       same-length = length-set w (base + v / 32) _;
       marked = ap (λ (x : ℕ). x / 2 ^ (v % 32) % 2) (at-set-same w (base + v / 32) _ room) ∙ set-bit (at w (base + v / 32)) (v % 32);
-      others = λ x ne. ⊎-elim
-          (λ (e : x / 32 ≡ v / 32).
+      others = λ x ne. equal-or-not (x / 32) (v / 32)
+          (λ e.
           ap (λ (i : ℕ). at (set w (base + v / 32) (bitOr (at w (base + v / 32)) (1 * 2 ^ (v % 32)))) (base + i) / 2 ^ (x % 32) % 2) e
           ∙ ap (λ (y : ℕ). y / 2 ^ (x % 32) % 2) (at-set-same w (base + v / 32) _ room)
           ∙ keep-bit (at w (base + v / 32)) (v % 32) (x % 32) (omega arith)
           ∙ ap (λ (i : ℕ). at w (base + i) / 2 ^ (x % 32) % 2) (sym e))
-          (λ (ne′ : x / 32 ≢ v / 32). ap (λ (y : ℕ). y / 2 ^ (x % 32) % 2) (at-set-other w (base + v / 32) _ (base + x / 32) (omega arith)))
-          (same-or-not (x / 32) (v / 32));
+          (λ ne′. ap (λ (y : ℕ). y / 2 ^ (x % 32) % 2) (at-set-other w (base + v / 32) _ (base + x / 32) (omega arith)));
       elsewhere = λ i ne. at-set-other w (base + v / 32) _ i ne;
     }
 

@@ -5,15 +5,12 @@ use mathlib.Core.Path.{_≡_, refl, sym, ap, _∙_, subst}
 use mathlib.Core.List.{List}
 use lib.ListN.{length, set, length-set, drop, replicate, length-append, length-replicate, length-drop, getD-replicate, List·getD-append}
 use lib.Seq.{getD-set-other, getD-set-same, ext-getD, getD-append-add, getD-drop}
-use mathlib.Core.Logic.{_≢_, _⊎_, inl, inr, ⊎-elim, by-cases}
-use native.Mathlib.Decide.{ℕ-discrete, decLt}
+use mathlib.Core.Logic.{_≢_, by-cases}
+use native.Mathlib.Decide.{decLt}
 use Rattle.sums.specs.Sum.{at}
+use Rattle.sums.proofs.Sums.{equal-or-not}
 use Rattle.graph.specs.Work.{Only, Zeroed}
 use Rattle.graph.specs.Validation.{cleared}
-
--- two numbers are equal or not
-pub same-or-not : (a b : ℕ) → (a ≡ b) ⊎ (a ≢ b)
-same-or-not a b = elim (ℕ-discrete a b) [ yes e ↦ inl e | no ne ↦ inr ne ]
 
 pub only-refl : (a e : ℕ) (w : List ℕ) → Only a e w w
 only-refl a e w = record { same-length = refl; before = λ i h. refl; after = λ i h. refl }
@@ -58,8 +55,8 @@ pub zeroed-more : {a i : ℕ} {w w′ : List ℕ} → i < length w′ → a ≤ 
 zeroed-more {a} {i} {w} {w′} room ha z =
     record {
       only = only-trans (only-wider (omega arith) (omega arith) (z .only)) (only-set w′ i 0 ha (omega arith));
-      zero = λ j h k. ⊎-elim (λ (e : j ≡ i). subst (λ (x : ℕ). at (set w′ i 0) x ≡ 0) (sym e) (at-set-same w′ i 0 room))
-          (λ (ne : j ≢ i). at-set-other w′ i 0 j ne ∙ z .zero j h (omega arith)) (same-or-not j i);
+      zero = λ j h k. equal-or-not j i (λ e. subst (λ (x : ℕ). at (set w′ i 0) x ≡ 0) (sym e) (at-set-same w′ i 0 room))
+          (λ ne. at-set-other w′ i 0 j ne ∙ z .zero j h (omega arith));
     }
 
 -- whatever stood in the first k entries, zeroing them leaves the others of the work before

@@ -4,10 +4,10 @@ use mathlib.Core.Path.{_≡_, refl, sym, _∙_}
 use native.Mathlib.Omega.{arith}
 use mathlib.Core.Logic.{_⊎_, inl, inr, by-cases}
 use native.Mathlib.Decide.{decLe}
-use mathlib.Core.Bool.{Bool, true, false, true≢false}
+use mathlib.Core.Bool.{Bool, true, false, not, true≢false}
 use mathlib.Core.List.{List, [], _∷_}
 use lib.Dec.{leb, eqb}
-use borrow.Author.Tests.{leb-true, leb-false, eqb-true, eqb-false}
+use borrow.Author.Tests.{leb-true, leb-false, eqb-true, eqb-false, not-true, not-false}
 use lib.ListN.{length}
 use Rattle.graph.specs.Judgement.{Test, First, Decides}
 use Rattle.graph.specs.Limits.{maxVertices, maxTargets}
@@ -26,6 +26,13 @@ decides-leb a b to back = record { right = λ e. to (leb-true a b e); wrong = λ
 
 pub decides-eqb : {P : Type 0} (a b : ℕ) → (a ≡ b → P) → (P → a ≡ b) → Decides P (eqb a b)
 decides-eqb a b to back = record { right = λ e. to (eqb-true a b e); wrong = λ e p. eqb-false a b e (back p) }
+
+-- what a test that is asked the other way round says
+pub passed : {P : Type 0} {r : Bool} → Decides P r → not r ≡ false → P
+passed {P} {r} d e = d .right (not-false r e)
+
+pub failed : {P : Type 0} {r : Bool} → Decides P r → not r ≡ true → P → ⊥
+failed {P} {r} d e = d .wrong (not-true r e)
 
 -- the first test not passed gives one code
 pub first-one : (ts : List Test) {c d : ℕ} → First ts c → First ts d → c ≡ d

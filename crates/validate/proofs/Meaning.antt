@@ -1,12 +1,13 @@
 -- What the contract of `validate_tree` says: it determines the code and all of work, and accepts exactly the trees.
 use Prim.Native.Nat.{ℕ, _+_, _≤_, _<_}
 use native.Mathlib.Omega.{arith}
-use native.Mathlib.Decide.{ℕ-discrete, decLt}
 use mathlib.Core.Path.{_≡_, refl, sym, ap, _∙_}
-use mathlib.Core.Logic.{_≢_, _⊎_, inl, inr, _↔_, by-cases}
+use mathlib.Core.Logic.{_≢_, _⊎_, inl, inr, _↔_}
 use mathlib.Core.List.{List, [], _∷_}
 use lib.ListN.{length}
 use Rattle.sums.specs.Sum.{count}
+use Rattle.sums.proofs.Sums.{equal-or-not}
+use Rattle.sums.proofs.Search.{all-or-one}
 use Rattle.paths.specs.Tree.{Symmetric, AllReached, Tree}
 use Rattle.graph.specs.Codes.{done}
 use Rattle.graph.specs.Judgement.{First}
@@ -68,3 +69,13 @@ accepted os ts root {w} {w′} {c} val = (λ z. only (val .code) z, λ a. first-
             ),
           ),
         )
+
+-- lists are symmetric, or "some v stands in u's list more or less often than u in v's"
+pub symmetric-or-not : (n : ℕ) (A : ℕ → List ℕ) → Symmetric n A ⊎ ((u : ℕ) × (u < n) × ((v : ℕ) × (v < n) × (count v (A u) ≢ count u (A v))))
+symmetric-or-not n A = turn (all-or-one n (λ u. (v : ℕ) → v < n → count v (A u) ≡ count u (A v)) (λ u. (v : ℕ) × (v < n) × (count v (A u) ≢ count u (A v)))
+    (λ u h. all-or-one n (λ v. count v (A u) ≡ count u (A v)) (λ v. count v (A u) ≢ count u (A v)) (λ v k. equal-or-not (count v (A u)) (count u (A v)) inl inr)))
+  where
+    turn : ((u : ℕ) → u < n → (v : ℕ) → v < n → count v (A u) ≡ count u (A v)) ⊎ ((u : ℕ) × (u < n) × ((v : ℕ) × (v < n) × (count v (A u) ≢ count u (A v))))
+        → Symmetric n A ⊎ ((u : ℕ) × (u < n) × ((v : ℕ) × (v < n) × (count v (A u) ≢ count u (A v))))
+    turn (inl s) = inl (λ u v hu hv. s u hu v hv)
+    turn (inr d) = inr d

@@ -10,7 +10,7 @@ use borrow.Author.Tests.{not-true, not-false}
 use Rattle.sums.specs.Sum.{at}
 use Rattle.paths.specs.Tree.{Symmetric, AllReached, Tree}
 use Rattle.graph.specs.Codes.{done, badSize, noRoom, badOffsets, badVertex, badRoot, notSymmetric, disconnected, hasCycle}
-use Rattle.graph.specs.Judgement.{First, Decides}
+use Rattle.graph.specs.Judgement.{First}
 use Rattle.graph.specs.Lent.{vertices, listOf, Offsets, Targets}
 use Rattle.graph.specs.Validation.{Sized, roomOf, graphTests, Leaves, Validates}
 use Rattle.graph.specs.Work.{Only, Zeroed}
@@ -23,13 +23,6 @@ use Rattle.visit.specs.Visit.{Visited, queueIn, upIn}
 use Rattle.visit.proofs.Positions.{places, visit-rooted, visit-held, visit-reaches, visit-few, visit-all}
 use Rattle.visit.proofs.Edges.{tree-entries, entries-tree}
 use Rattle.validate.specs.Judged.{JudgeAsks, VisitIn, Judged}
-
--- what a test that is asked the other way round says
-pub passed : {P : Type 0} {r : Bool} → Decides P r → not r ≡ false → P
-passed {P} {r} d e = d .right (not-false r e)
-
-pub failed : {P : Type 0} {r : Bool} → Decides P r → not r ≡ true → P → ⊥
-failed {P} {r} d e = d .wrong (not-true r e)
 
 module _ (os ts : List ℕ) (root : ℕ) (w : List ℕ) (a : JudgeAsks os ts w) where
   small : vertices os < 2 ^ 31

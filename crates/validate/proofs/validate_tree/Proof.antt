@@ -2,7 +2,8 @@ use borrow.Author.Needs.{needs}
 use Rattle.validate.proofs.validate_tree.Statement.{statement}
 use Rattle.validate.proofs.validate_tree.Tie as tie
 use native.Mathlib.Omega.{arith}
-use Rattle.validate.proofs.Steps.{passed, failed, too-large, too-short, judged, room-fits}
+use Rattle.graph.proofs.Judging.{passed, failed}
+use Rattle.validate.proofs.Steps.{too-large, too-short, judged, room-fits}
 
 sized-requires : tie.Need-sized-requires
 sized-requires c κs = search needs

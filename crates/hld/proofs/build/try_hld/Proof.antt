@@ -2,7 +2,8 @@ use borrow.Author.Needs.{needs}
 use Rattle.hld.proofs.build.try_hld.Statement.{statement}
 use Rattle.hld.proofs.build.try_hld.Tie as tie
 use native.Mathlib.Omega.{arith}
-use Rattle.validate.proofs.Steps.{passed, failed, room-fits}
+use Rattle.graph.proofs.Judging.{passed, failed}
+use Rattle.validate.proofs.Steps.{room-fits}
 use Rattle.hld.proofs.Whole.{too-large, too-short, built-whole}
 
 sized-requires : tie.Need-sized-requires

@@ -1,0 +1,60 @@
+-- The loop keeps the length of out; what is left of it falls.
+use borrow.Author.Needs.{needs}
+use Prim.Native.Nat.{_-_}
+use mathlib.Core.Path.{_≡_}
+use lib.ListN.{length}
+use Rattle.examples.proofs.large.path_offsets.Statement.{statement}
+use Rattle.examples.proofs.large.path_offsets.Tie as tie
+
+abbrev Inv-loop : tie.InvT-loop
+Inv-loop out₀ points end₀ v₀ out end v = length out ≡ length out₀
+
+abbrev μ-loop : tie.MeasureT-loop
+μ-loop out₀ points end₀ v₀ out end v = length out₀ - v
+
+loop-holds : tie.Need-loop-holds Inv-loop μ-loop
+loop-holds c = search needs
+
+mul-out : tie.Need-mul-out Inv-loop μ-loop
+mul-out c = search needs
+
+slice-write-out : tie.Need-slice-write-out Inv-loop μ-loop
+slice-write-out c = search needs
+
+path-degree-requires : tie.Need-path-degree-requires Inv-loop μ-loop
+path-degree-requires c κs = search needs
+
+wrapping-add-u32-requires : tie.Need-wrapping-add-u32-requires Inv-loop μ-loop
+wrapping-add-u32-requires c κs = search needs
+
+add-v : tie.Need-add-v Inv-loop μ-loop
+add-v c = search needs
+
+loop-less : tie.Need-loop-less Inv-loop μ-loop
+loop-less c = search needs
+
+loop-again : tie.Need-loop-again Inv-loop μ-loop
+loop-again c = search needs
+
+same-length : tie.Need-same-length Inv-loop μ-loop
+same-length c = search needs
+
+returns : tie.Need-returns Inv-loop μ-loop
+returns c = search needs
+
+pub path-offsets-spec : {M : Type 1} → statement M
+path-offsets-spec =
+    tie.close
+    (tie.spec
+    Inv-loop
+    μ-loop
+    loop-holds
+    mul-out
+    slice-write-out
+    path-degree-requires
+    wrapping-add-u32-requires
+    add-v
+    loop-less
+    loop-again
+    same-length
+    returns)

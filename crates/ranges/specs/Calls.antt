@@ -1,0 +1,58 @@
+-- What the calls for ranges answer, and what they leave in the lent list.
+use Prim.Native.Nat.{ℕ, _+_, _*_, _≤_}
+use mathlib.Core.Path.{_≡_}
+use mathlib.Core.Bool.{Bool, true, false}
+use mathlib.Core.List.{List, [], _∷_, _++_}
+use lib.Dec.{leb}
+use lib.ListN.{length, drop}
+use Rattle.graph.specs.Limits.{maxVertices}
+use Rattle.numbering.specs.Log.{log2}
+use Rattle.tables.specs.Tables.{Six}
+use Rattle.climb.specs.Choice.{pick, both}
+use Rattle.climb.specs.Queries.{sizeOf, asked}
+use Rattle.climb.specs.declared.answers.Refusal.{Refusal}
+use Rattle.climb.specs.declared.answers.Refusal.the-variants.{BadSize, NoRoom, BadTable}
+use Rattle.climb.specs.declared.answers.Answer.{Answer}
+use Rattle.climb.specs.declared.answers.Answer.the-variants.{Is, Refused as NoNumber}
+use Rattle.ranges.specs.declared.kinds.Direction.{Direction}
+use Rattle.ranges.specs.declared.kinds.Direction.the-variants.{Forward, Reversed}
+use Rattle.ranges.specs.declared.kinds.PathRange.{PathRange}
+use Rattle.ranges.specs.declared.kinds.Kind.{Kind}
+use Rattle.ranges.specs.declared.kinds.Listed.{Listed}
+use Rattle.ranges.specs.declared.kinds.Listed.the-variants.{Count, Refused}
+use Rattle.ranges.specs.Ranges.{Found, lost, found, pathRanges}
+
+-- the ranges of a path, or the refusal that comes before the test of room
+pub data Answered : Type 0 where
+  refused : Refusal → Answered
+  listed : List PathRange → Answered
+
+abbrev pub fromFound : Found → Answered
+fromFound lost = refused BadTable
+fromFound (found l) = listed l
+
+-- "A query tests 1, then 4; 9 and 10 come as the climb meets them"
+unfoldable pub rangesOf : Kind → Six → ℕ → ℕ → Answered
+rangesOf kind t u v = asked t (u ∷ v ∷ []) refused (fromFound (pathRanges kind (sizeOf t) t u v))
+
+-- a range in a plain list: its start, its end and 0 for Forward, 1 for Reversed
+abbrev pub directionCode : Direction → ℕ
+directionCode Forward = 0
+directionCode Reversed = 1
+
+abbrev pub flat : List PathRange → List ℕ
+flat [] = []
+flat (r ∷ l) = r .start ∷ r .end ∷ directionCode (r .direction) ∷ flat l
+
+-- "2 for lists is last": where the list is too short nothing is written; "Entries of a list past its count are unchanged"
+abbrev pub roomAnswer : Answered → ℕ → Listed
+roomAnswer (refused x) room = Refused x
+roomAnswer (listed l) room = pick (leb (3 * length l) room) (Count (length l)) (Refused NoRoom)
+
+abbrev pub roomList : Answered → List ℕ → List ℕ
+roomList (refused x) lent = lent
+roomList (listed l) lent = pick (leb (3 * length l) (length lent)) (flat l ++ drop (3 * length l) lent) lent
+
+-- "Range room: 2·floor(log2 n)+1 is always enough, and a call returns that number for n from 1 to 32,768, else refusal 1."
+abbrev pub rangeRoom : ℕ → Answer
+rangeRoom n = pick (both (leb 1 n) (leb n maxVertices)) (Is (2 * log2 n + 1)) (NoNumber BadSize)

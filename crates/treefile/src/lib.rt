@@ -1,0 +1,1 @@
+// The input and the output of the program `treepaths`, as values: what a well-formed file is and means, and the bytes of a report.

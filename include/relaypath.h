@@ -1,0 +1,65 @@
+/*
+ * relaypath: proved calls on relay trees, for C99 and for what can call C.
+ * Link with librelaypath.a, which `rt staticlib relaypath` writes.
+ *
+ * A graph of n vertices is lent as two arrays of 32-bit numbers: n + 1 offsets
+ * and E targets. The list of vertex u is the targets from offsets[u] up to
+ * offsets[u + 1], the end excluded. Vertices are 0 to n - 1.
+ *
+ * What the numbers say is never trusted: each call ends without a fault on any
+ * contents. Of the pointers the caller sees to it that
+ *   - each is aligned and has as many entries as the length after it says,
+ *     and only where that length is 0 may it be null;
+ *   - `work` overlaps no other array;
+ *   - nobody else writes the arrays, or reads `work`, until the call returns.
+ */
+#ifndef RELAYPATH_H
+#define RELAYPATH_H
+
+#include <stddef.h>
+#include <stdint.h>
+
+#ifdef __cplusplus
+extern "C" {
+#endif
+
+/* Limits: n is from 1 to RELAYPATH_MAX_VERTICES, E at most RELAYPATH_MAX_TARGETS. */
+#define RELAYPATH_MAX_VERTICES 32768
+#define RELAYPATH_MAX_TARGETS 65535
+
+/* The entries that `work` needs for n vertices and e targets. */
+#define RELAYPATH_WORK_ROOM(n, e) (8 * (size_t)(n) + (size_t)(e))
+
+/* Codes. A call answers that of the first test that is not passed, in this order. */
+#define RELAYPATH_DONE 0          /* all tests are passed */
+#define RELAYPATH_BAD_SIZE 1      /* fewer than two offsets, or n or E above its limit */
+#define RELAYPATH_NO_ROOM 2       /* work has fewer than 8n + E entries */
+#define RELAYPATH_BAD_OFFSETS 3   /* the first offset is not 0, an offset falls, or the last is not E */
+#define RELAYPATH_BAD_VERTEX 4    /* a target is n or more */
+#define RELAYPATH_BAD_ROOT 5      /* the root is n or more */
+#define RELAYPATH_NOT_SYMMETRIC 6 /* some v stands in u's list more or less often than u in v's */
+#define RELAYPATH_DISCONNECTED 7  /* symmetric, but some vertex is not reached from the root */
+#define RELAYPATH_HAS_CYCLE 8     /* symmetric and all reached, but no tree */
+
+/*
+ * Judges a graph, seen from root. Answers RELAYPATH_DONE exactly where it is a
+ * tree: symmetric lists, exactly one simple path between any two vertices, no
+ * vertex in its own list, no entry twice in a list. Otherwise it answers a code
+ * from 1 to 8.
+ *
+ * offsets, targets: read, never written.
+ * work: at least RELAYPATH_WORK_ROOM(n, E) entries, of any contents. On the
+ *     codes 1 and 2 it is unchanged. On every other answer its first 8n + E
+ *     entries are zero afterwards, and the rest is unchanged.
+ * Time: proportional to n + E, on every input. It takes no other memory.
+ */
+uint32_t relaypath_validate_tree(const uint32_t *offsets, size_t offsets_len,
+                                 const uint32_t *targets, size_t targets_len,
+                                 size_t root,
+                                 uint32_t *work, size_t work_len);
+
+#ifdef __cplusplus
+}
+#endif
+
+#endif

@@ -1,0 +1,40 @@
+// Holds the proved library against the Rust original on graphs whose lists are symmetric, and shows lists that are not symmetric on which
+// the original accepts, panics or never ends.
+//
+//   compare [--short]       compare; the last line says whether all answers agree
+//   compare --sample FILE   write a sample of the original's answers, for the crate `replay`
+//   compare --try NAME      run the original on one entry of the table in uneven.rs (used for those that never end)
+mod calls;
+mod lists;
+mod random;
+mod sample;
+mod shapes;
+mod small;
+mod tally;
+mod uneven;
+
+use std::process::ExitCode;
+use tally::Tally;
+
+fn compare(short: bool) -> ExitCode {
+    let mut tally = Tally::new();
+    small::all(&mut tally, short);
+    shapes::all(&mut tally, short);
+    uneven::all(&mut tally, short);
+    tally.verdict()
+}
+
+fn main() -> ExitCode {
+    let words: Vec<String> = std::env::args().skip(1).collect();
+    let words: Vec<&str> = words.iter().map(String::as_str).collect();
+    match words[..] {
+        [] => compare(false),
+        ["--short"] => compare(true),
+        ["--sample", file] => sample::write(file),
+        ["--try", name] => uneven::try_one(name),
+        _ => {
+            eprintln!("usage: compare [--short] | compare --sample FILE");
+            ExitCode::from(2)
+        }
+    }
+}
