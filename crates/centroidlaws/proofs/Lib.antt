@@ -1,0 +1,17 @@
+pub mod Every
+pub mod Clear
+pub mod Centroid
+pub mod Parents
+pub mod Agreement
+pub mod Parts
+pub mod Halving
+pub mod Inside
+pub mod Totals
+pub mod Layers
+pub mod Before
+pub mod Entries
+pub mod Hung
+pub mod SameLists
+pub mod Passed
+pub mod Determined
+pub mod Rootings

@@ -1,0 +1,120 @@
+-- What holds for the paths of one rooting holds for those of all: a decomposition, and component lists, may be shown for one.
+use Prim.Native.Nat.{ℕ, suc, _+_, _<_}
+use mathlib.Core.Path.{_≡_, refl, ap, ap₂, _∙_}
+use mathlib.Core.Logic.{inl, inr}
+use mathlib.Core.Bool.{Bool}
+use mathlib.Core.List.{List, [], _∷_, _++_, map}
+use lib.Dec.{eqb, leb}
+use lib.ListN.{length}
+use Rattle.sums.specs.Sum.{at}
+use Rattle.paths.specs.Walk.{In, Below, Stands}
+use Rattle.paths.specs.Rooted.{Spans}
+use Rattle.paths.specs.Route.{ptail}
+use Rattle.paths.proofs.Listed.{in-below}
+use Rattle.paths.proofs.Unique.{root-free}
+use Rattle.numbering.proofs.Kept.{keep-ext}
+use Rattle.centroid.specs.Components.{every, componentOf}
+use Rattle.centroid.specs.Decomposition.{CentroidAt, DecompositionOf}
+use Rattle.centroid.specs.Lists.{onward, onwards, Breadth, branchOf, joined, ListsOf}
+use Rattle.centroidlaws.proofs.Every.{both}
+use Rattle.centroidlaws.proofs.Centroid.{SameWay, SameSet, centroid-same}
+use Rattle.centroidlaws.proofs.Parents.{decomposed}
+use Rattle.centroidlaws.proofs.Before.{Listed}
+use Rattle.centroidlaws.proofs.Entries.{component-around, entries-below}
+use Rattle.centroidlaws.proofs.SameLists.{joined-same}
+
+-- components do not depend on the ways
+component-same : (n : ℕ) (way way′ : ℕ → ℕ → List ℕ) → SameWay n way way′ → (level : ℕ → ℕ) {c : ℕ} → c < n
+    → SameSet n (componentOf way level c) (componentOf way′ level c)
+component-same n way way′ ways level {c} hc x hx = ap (λ (l : List ℕ). every (λ y. leb (level c) (level y)) (c ∷ l)) (ways c x hc hx)
+
+-- a centroid for one rooting is one for all
+centroid-at : (n : ℕ) (A : ℕ → List ℕ) (way way′ : ℕ → ℕ → List ℕ) → SameWay n way way′ → (up level : ℕ → ℕ) (c : ℕ) → c < n
+    → CentroidAt n A way up level c → CentroidAt n A way′ up level c
+centroid-at n A way way′ ways up level c hc a = record {
+  start = a .start;
+  start-below = a .start-below;
+  began = a .began;
+  centroid = centroid-same n way way′ (componentOf way level c) (componentOf way′ level c) ways
+      (component-same n way way′ ways level hc) (a .start-below) hc (a .centroid);
+}
+
+-- a decomposition by the paths of one rooting is the decomposition
+pub decomposition-from :
+    {n : ℕ} {A : ℕ → List ℕ} {par dep : ℕ → ℕ} {up level : List ℕ} → Spans n (Stands A) 0 par dep
+    → length up ≡ n → length level ≡ n
+    → ((c : ℕ) → c < n → CentroidAt n A (ptail par dep) (at up) (at level) c)
+    → DecompositionOf n A up level
+decomposition-from {n} {A} {par} {dep} {up} {level} S e f h = record {
+  up-long = e;
+  level-long = f;
+  centroids = λ par′ dep′ S′ c hc.
+      centroid-at n A (ptail par dep) (ptail par′ dep′) (λ u v hu hv. root-free S S′ hu hv) (at up) (at level) c hc (h c hc);
+}
+
+-- numbers that agree on a list's entries are the same in order
+map-same : (f g : ℕ → ℕ) (l : List ℕ) → ((x : ℕ) → In x l → f x ≡ g x) → map f l ≡ map g l
+map-same f g [] h = refl
+map-same f g (x ∷ l) h = ap₂ _∷_ (h x (inl refl)) (map-same f g l (λ y i. h y (inr i)))
+
+module _
+    {n : ℕ} (A : ℕ → List ℕ) (small : (u : ℕ) → u < n → Below n (A u))
+    {way way′ : ℕ → ℕ → List ℕ} (ways : SameWay n way way′) {C C′ : ℕ → Bool} (same : SameSet n C C′) {c : ℕ} (hc : c < n)
+  where
+    -- a vertex leads on to the same vertices
+    onward-same : (x : ℕ) → x < n → onward A way C c x ≡ onward A way′ C′ c x
+    onward-same x hx =
+        let leads : Bool → List ℕ → List ℕ → Bool = λ t l m. both t (eqb (length l) (suc (length m))) in
+        keep-ext (λ y. leads (C y) (way c y) (way c x)) (λ y. leads (C′ y) (way′ c y) (way′ c x)) (A x) (λ y i.
+        let hy = in-below n y (A x) (small x hx) i in
+        ap₂ (λ (t : Bool) (l : List ℕ). leads t l (way c x)) (same y hy) (ways c y hc hy)
+        ∙ ap (leads (C′ y) (way′ c y)) (ways c x hc hx))
+
+    -- so does a list of vertices
+    onwards-same : (q : List ℕ) → Below n q → onwards A way C c q ≡ onwards A way′ C′ c q
+    onwards-same [] b = refl
+    onwards-same (x ∷ q) b = ap₂ _++_ (onward-same x (b .0)) (onwards-same q (b .1))
+
+    -- a breadth first list by the one is one by the other
+    breadth-same : (q : List ℕ) → Below n q → Breadth A way C c q → Breadth A way′ C′ c q
+    breadth-same q b e = e ∙ ap (λ (l : List ℕ). c ∷ l) (onwards-same q b)
+
+module _
+    {n : ℕ} {A : ℕ → List ℕ} {par dep : ℕ → ℕ} (T : Listed n A par dep) {up level : List ℕ} (D : DecompositionOf n A up level)
+    (q : ℕ → List ℕ) (B : (c : ℕ) → c < n → Breadth A (ptail par dep) (componentOf (ptail par dep) (at level) c) c (q c))
+  where
+    -- the entries of the lists are vertices
+    each-below : (c : ℕ) → c < n → Below n (q c)
+    each-below c hc = entries-below T (component-around (decomposed (T .spans) D) hc) (B c hc)
+
+    -- what is made of the ways from c to its list's entries does not depend on the ways
+    made-same : (f : ℕ → List ℕ → ℕ) {par′ dep′ : ℕ → ℕ} → Spans n (Stands A) 0 par′ dep′
+        → joined (λ c. map (λ x. f c (ptail par dep c x)) (q c)) n ≡ joined (λ c. map (λ x. f c (ptail par′ dep′ c x)) (q c)) n
+    made-same f {par′} {dep′} S′ =
+        joined-same (λ c. map (λ x. f c (ptail par dep c x)) (q c)) (λ c. map (λ x. f c (ptail par′ dep′ c x)) (q c)) n (λ c hc.
+        map-same (λ x. f c (ptail par dep c x)) (λ x. f c (ptail par′ dep′ c x)) (q c)
+        (λ x i. ap (f c) (root-free (T .spans) S′ hc (in-below n x (q c) (each-below c hc) i))))
+
+    -- component lists by the paths of one rooting are the component lists
+    pub lists-from :
+        {l₁ l₂ l₃ l₄ : List ℕ}
+        → l₁ ≡ joined q n
+        → l₂ ≡ joined (λ c. map (λ x. length (ptail par dep c x)) (q c)) n
+        → l₃ ≡ joined (λ c. map (branchOf (ptail par dep) c) (q c)) n
+        → length l₄ ≡ n + 1
+        → ((c : ℕ) → c < n + 1 → at l₄ c ≡ length (joined q c))
+        → ListsOf n A l₁ l₂ l₃ l₄
+    lists-from e₁ e₂ e₃ e₄ starts = record {
+      up = up;
+      level = level;
+      decomposition = D;
+      q = q;
+      breadth = λ par′ dep′ S′ c hc.
+          let ways : SameWay n (ptail par dep) (ptail par′ dep′) = λ u v hu hv. root-free (T .spans) S′ hu hv in
+          breadth-same A (T .below) ways (component-same n (ptail par dep) (ptail par′ dep′) ways (at level) hc) hc (q c) (each-below c hc) (B c hc);
+      all-vertices = e₁;
+      all-distances = λ par′ dep′ S′. e₂ ∙ made-same (λ c l. length l) S′;
+      all-branches = λ par′ dep′ S′. e₃ ∙ made-same (λ c l. elim l [ [] ↦ c | (y ∷ l) ↦ y ]) S′;
+      starts-long = e₄;
+      all-starts = starts;
+    }
