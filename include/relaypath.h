@@ -10,8 +10,9 @@
  * contents. Of the pointers the caller sees to it that
  *   - each is aligned and has as many entries as the length after it says,
  *     and only where that length is 0 may it be null;
- *   - `work` overlaps no other array;
- *   - nobody else writes the arrays, or reads `work`, until the call returns.
+ *   - an array that is written (`work`, and the tables) overlaps no other array;
+ *   - nobody else writes the arrays, or reads those that are written, until the
+ *     call returns.
  */
 #ifndef RELAYPATH_H
 #define RELAYPATH_H
@@ -30,9 +31,12 @@ extern "C" {
 /* The entries that `work` needs for n vertices and e targets. */
 #define RELAYPATH_WORK_ROOM(n, e) (8 * (size_t)(n) + (size_t)(e))
 
+/* What the parent table holds for the root. */
+#define RELAYPATH_NO_PARENT UINT32_C(4294967295)
+
 /* Codes. A call answers that of the first test that is not passed, in this order. */
 #define RELAYPATH_DONE 0          /* all tests are passed */
-#define RELAYPATH_BAD_SIZE 1      /* fewer than two offsets, or n or E above its limit */
+#define RELAYPATH_BAD_SIZE 1      /* fewer than two offsets, n or E above its limit, or a table not of n entries */
 #define RELAYPATH_NO_ROOM 2       /* work has fewer than 8n + E entries */
 #define RELAYPATH_BAD_OFFSETS 3   /* the first offset is not 0, an offset falls, or the last is not E */
 #define RELAYPATH_BAD_VERTEX 4    /* a target is n or more */
@@ -57,6 +61,36 @@ uint32_t relaypath_validate_tree(const uint32_t *offsets, size_t offsets_len,
                                  const uint32_t *targets, size_t targets_len,
                                  size_t root,
                                  uint32_t *work, size_t work_len);
+
+/*
+ * The heavy-light decomposition of a tree from root. Answers RELAYPATH_DONE
+ * exactly where the graph is a tree, as above, and each table has n entries.
+ * Otherwise it answers a code from 1 to 8 and writes no table.
+ *
+ * offsets, targets: read, never written.
+ * parent, depth, size: entry v is the parent of vertex v seen from the root
+ *     (RELAYPATH_NO_PARENT for the root), its distance from the root, and the
+ *     number of vertices in its subtree.
+ * id: entry v is the number of vertex v. The root is 0. After a vertex comes
+ *     the whole subtree of its heavy child, which is the child of greatest size
+ *     (of equals the first in the list), then those of its other children in
+ *     reverse list order. So the subtree of v has the numbers from id[v] up to
+ *     id[v] + size[v], the end excluded.
+ * order: entry i is the vertex with the number i.
+ * head: entry v is the top of the chain of heavy children that v is on.
+ * work: as above.
+ * Time: proportional to n + E, on every input. It takes no other memory.
+ */
+uint32_t relaypath_try_hld(const uint32_t *offsets, size_t offsets_len,
+                           const uint32_t *targets, size_t targets_len,
+                           size_t root,
+                           uint32_t *parent, size_t parent_len,
+                           uint32_t *depth, size_t depth_len,
+                           uint32_t *head, size_t head_len,
+                           uint32_t *id, size_t id_len,
+                           uint32_t *order, size_t order_len,
+                           uint32_t *size, size_t size_len,
+                           uint32_t *work, size_t work_len);
 
 #ifdef __cplusplus
 }

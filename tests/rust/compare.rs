@@ -1,15 +1,20 @@
 // Holds the proved library against the Rust original on graphs whose lists are symmetric, and shows lists that are not symmetric on which
 // the original accepts, panics or never ends.
 //
-//   compare [--short]       compare; the last line says whether all answers agree
-//   compare --sample FILE   write a sample of the original's answers, for the crate `replay`
-//   compare --try NAME      run the original on one entry of the table in uneven.rs (used for those that never end)
+//   compare [--short]           compare; the last line says whether all answers agree
+//   compare --sample FILE       write a sample of the original's answers, for the crate `replay`
+//   compare --sample-hld FILE   write a sample of the original's tables, for the crate `replay_hld`
+//   compare --try NAME          run the original on one entry of the table in uneven.rs (used for those that never end)
 mod calls;
+mod labelled;
 mod lists;
 mod random;
+mod refused;
 mod sample;
+mod sample_hld;
 mod shapes;
 mod small;
+mod tables;
 mod tally;
 mod uneven;
 
@@ -19,7 +24,9 @@ use tally::Tally;
 fn compare(short: bool) -> ExitCode {
     let mut tally = Tally::new();
     small::all(&mut tally, short);
+    labelled::all(&mut tally);
     shapes::all(&mut tally, short);
+    refused::all(&mut tally);
     uneven::all(&mut tally, short);
     tally.verdict()
 }
@@ -30,10 +37,13 @@ fn main() -> ExitCode {
     match words[..] {
         [] => compare(false),
         ["--short"] => compare(true),
-        ["--sample", file] => sample::write(file),
+        ["--sample", file] => sample::write(file, &sample::cases()),
+        ["--sample-hld", file] => sample::write(file, &sample_hld::cases()),
         ["--try", name] => uneven::try_one(name),
         _ => {
-            eprintln!("usage: compare [--short] | compare --sample FILE");
+            eprintln!(
+                "usage: compare [--short] | compare --sample FILE | compare --sample-hld FILE"
+            );
             ExitCode::from(2)
         }
     }

@@ -1,4 +1,5 @@
 // A graph as lists of vertices, and its form as offsets and targets.
+use crate::random::Random;
 
 #[derive(Clone)]
 pub struct Lists(pub Vec<Vec<u32>>);
@@ -58,6 +59,13 @@ impl Lists {
     pub fn turned(&self) -> Self {
         let backwards = |list: &Vec<u32>| list.iter().rev().copied().collect();
         Lists(self.0.iter().map(backwards).collect())
+    }
+
+    pub fn shuffled(mut self, random: &mut Random) -> Self {
+        for list in &mut self.0 {
+            random.shuffle(list);
+        }
+        self
     }
 
     // Whether each v stands in u's list as often as u in v's, by counting all pairs.

@@ -34,6 +34,14 @@ fn shaped_cases(least: usize, most: usize, random: &mut Random) -> Vec<Vec<u32>>
     kinds().map(&mut one).collect()
 }
 
+pub fn cases() -> Vec<Vec<u32>> {
+    let mut random = Random::new(2);
+    let mut cases = small_cases();
+    cases.extend(shaped_cases(4, 12, &mut random));
+    cases.extend(shaped_cases(40, 60, &mut random));
+    cases
+}
+
 fn bytes(cases: &[Vec<u32>]) -> Vec<u8> {
     let count = cases.len() as u16;
     let numbers = cases.iter().flatten().map(|&x| x as u16);
@@ -43,12 +51,9 @@ fn bytes(cases: &[Vec<u32>]) -> Vec<u8> {
         .collect()
 }
 
-pub fn write(file: &str) -> ExitCode {
-    let mut random = Random::new(2);
-    let mut cases = small_cases();
-    cases.extend(shaped_cases(4, 12, &mut random));
-    cases.extend(shaped_cases(40, 60, &mut random));
-    let bytes = bytes(&cases);
+// Writes the cases as the programs read them: their count first.
+pub fn write(file: &str, cases: &[Vec<u32>]) -> ExitCode {
+    let bytes = bytes(cases);
     println!("{} cases, {} bytes", cases.len(), bytes.len());
     match std::fs::write(file, bytes) {
         Ok(()) => ExitCode::SUCCESS,

@@ -6,7 +6,7 @@ use crate::tally::Tally;
 
 type Edges = Vec<(usize, usize)>;
 
-const SHAPES: [&str; 7] = [
+pub const SHAPES: [&str; 7] = [
     "path",
     "star",
     "caterpillar",
@@ -85,14 +85,6 @@ fn change(what: &str, n: usize, mut edges: Edges, random: &mut Random) -> Edges 
     edges
 }
 
-fn shuffled(n: usize, edges: &Edges, random: &mut Random) -> Lists {
-    let mut lists = Lists::of_edges(n, edges);
-    for list in &mut lists.0 {
-        random.shuffle(list);
-    }
-    lists
-}
-
 // Each shape with each change.
 pub fn kinds() -> impl Iterator<Item = (&'static str, &'static str)> {
     SHAPES
@@ -103,7 +95,7 @@ pub fn kinds() -> impl Iterator<Item = (&'static str, &'static str)> {
 pub fn graph(shape: &str, what: &str, n: usize, random: &mut Random) -> Lists {
     let edges = tree(shape, n, random);
     let edges = change(what, n, edges, random);
-    shuffled(n, &edges, random)
+    Lists::of_edges(n, &edges).shuffled(random)
 }
 
 // Each kind at size n, from `roots` roots. Graphs beyond the limit of targets are left out.

@@ -1,5 +1,5 @@
 // Every small graph: a multiplicity for each pair of vertices, a vertex with itself included.
-use crate::calls::{Lent, NOT_SYMMETRIC};
+use crate::calls::{Lent, DONE, NOT_SYMMETRIC};
 use crate::lists::Lists;
 use crate::tally::Tally;
 
@@ -9,7 +9,7 @@ fn pairs(n: usize) -> Vec<(usize, usize)> {
 }
 
 // The number `k` as `digits` digits in base `base`.
-fn digits(k: usize, base: usize, digits: usize) -> Vec<usize> {
+pub fn digits(k: usize, base: usize, digits: usize) -> Vec<usize> {
     (0..digits).map(|i| k / base.pow(i as u32) % base).collect()
 }
 
@@ -51,8 +51,13 @@ fn all_graphs(tally: &mut Tally, n: usize, base: usize) -> usize {
         let lists = lists_of(n, &digits(k, base, n * n));
         let mut lent = Lent::new(&lists);
         let code = lent.validate(k % n);
-        if (code == NOT_SYMMETRIC) == lists.symmetric() || !lent.work_is_clean() {
-            tally.wrong(&format!("{} from {}: {code}, or work", lists.text(), k % n));
+        let fine = lent.work_is_clean() && (code == DONE || lent.refuses(k % n, code));
+        if (code == NOT_SYMMETRIC) == lists.symmetric() || !fine {
+            tally.wrong(&format!(
+                "{} from {}: {code}, a table or work",
+                lists.text(),
+                k % n
+            ));
         }
         tally.checked();
         given += usize::from(code == NOT_SYMMETRIC);

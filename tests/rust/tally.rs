@@ -1,5 +1,5 @@
 // Counts of the answers compared, and the verdict over all of them.
-use crate::calls::{original_code, original_graph, Lent, DISCONNECTED, DONE, HAS_CYCLE};
+use crate::calls::{original_answer, original_graph, Answer, Lent, DISCONNECTED, DONE, HAS_CYCLE};
 use crate::lists::Lists;
 use std::process::ExitCode;
 
@@ -35,26 +35,20 @@ impl Tally {
         self.total += 1;
     }
 
+    pub fn total(&self) -> usize {
+        self.total
+    }
+
     // Compares the two sides on symmetric lists, seen from each of the roots.
     pub fn compare(&mut self, lists: &Lists, roots: impl Iterator<Item = usize>) {
         let graph = original_graph(lists);
         let mut lent = Lent::new(lists);
         for root in roots {
-            let theirs = original_code(&graph, root);
-            let ours = lent.validate(root);
-            if ours != theirs {
-                self.wrong(&format!(
-                    "{} from {root}: {ours}, the original {theirs}",
-                    lists.text()
-                ));
+            let theirs = original_answer(&graph, root);
+            if let Some(what) = difference(&mut lent, root, &theirs) {
+                self.wrong(&format!("{} from {root}: {what}", lists.text()));
             }
-            if !lent.work_is_clean() {
-                self.wrong(&format!(
-                    "{} from {root}: work is not as promised",
-                    lists.text()
-                ));
-            }
-            self.count(theirs);
+            self.count(theirs.code);
         }
     }
 
@@ -82,4 +76,25 @@ impl Tally {
         println!("{} compared, {} wrong", self.total, self.wrong);
         ExitCode::from(u8::from(self.wrong != 0))
     }
+}
+
+// In what the proved calls differ from the original's answer or from what they promise of work.
+fn difference(lent: &mut Lent, root: usize, theirs: &Answer) -> Option<String> {
+    let code = theirs.code;
+    let judged = lent.validate(root);
+    if judged != code {
+        return Some(format!("judged {judged}, the original {code}"));
+    }
+    if !lent.work_is_clean() {
+        return Some("work is not as promised by the validation".to_string());
+    }
+    let ours = lent.build(root);
+    if ours.code != code {
+        return Some(format!("built {}, the original {code}", ours.code));
+    }
+    if !lent.work_is_clean() {
+        return Some("work is not as promised by the build".to_string());
+    }
+    let table = ours.tables.differs(&theirs.tables)?;
+    Some(format!("the table {table} differs after code {code}"))
 }

@@ -1,5 +1,5 @@
 // Lists that are not symmetric, on which the original does something else than refuse: it accepts what is no tree, panics or never ends.
-// The proved call gives 6 on each. Each root is 0.
+// The proved calls give 6 on each. Each root is 0.
 use crate::calls::{original_code, original_graph, Lent, DISCONNECTED, DONE, NOT_SYMMETRIC};
 use crate::lists::Lists;
 use crate::tally::Tally;
@@ -122,7 +122,7 @@ fn check(tally: &mut Tally, entry: &Uneven, short: bool) {
     let mut lent = Lent::new(&entry.lists);
     let ours = lent.validate(0);
     let theirs = seen(entry, short);
-    if ours != NOT_SYMMETRIC || theirs != entry.does || !lent.work_is_clean() {
+    if theirs != entry.does || !lent.refuses(0, NOT_SYMMETRIC) {
         tally.wrong(&format!("{}: {ours}, the original {theirs:?}", entry.name));
     }
     tally.checked();

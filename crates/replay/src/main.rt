@@ -6,11 +6,15 @@ use graph::codes::DISCONNECTED;
 use graph::codes::DONE;
 use graph::codes::HAS_CYCLE;
 use libc::STDIN_FILENO;
-use libc::STDOUT_FILENO;
+use sample::holds;
+use sample::number;
+use sample::print_count;
+use sample::print_malformed;
+use sample::read_numbers;
 use std::num::wrapping_add_u64;
 use std::num::wrapping_add_usize;
 use validate::validate_tree;
-ghost use Prim.Native.Nat.{_<_, _≤_};
+ghost use Prim.Native.Nat.{_≤_};
 
 // The largest sample, which leaves a byte of the buffer, and its largest case.
 const MAX_BYTES: usize = 65_535;
@@ -58,44 +62,6 @@ impl Counts {
             self.agree = wrapping_add_u64(self.agree, 1);
         }
         self
-    }
-}
-
-fn wide(x: u8) -> u32
-    ensures { λ r. ⌜ r < 256 ⌝ }
-{
-    x as u32
-}
-
-// The number at index at of the bytes; 0 where they end before.
-fn number(bytes: &[u8], at: usize) -> u32
-    ensures { λ r. ⌜ r < 65536 ⌝ }
-{
-    if bytes.len() < 2 {
-        return 0;
-    }
-    if bytes.len() - 2 < at {
-        return 0;
-    }
-    wide(bytes[at]) + 256 * wide(bytes[at + 1])
-}
-
-// Whether the bytes hold count numbers from index at on.
-fn holds(bytes: &[u8], at: usize, count: usize) -> bool {
-    if bytes.len() < at {
-        return false;
-    }
-    count <= (bytes.len() - at) / 2
-}
-
-// Fills out with the numbers from index at on, and with zeros where the bytes end before.
-fn read_numbers(bytes: &[u8], at: usize, out: &mut [u32]) {
-    let mut from = at;
-    let mut k: usize = 0;
-    while k < out.len() {
-        out[k] = number(bytes, from);
-        from = wrapping_add_usize(from, 2);
-        k += 1;
     }
 }
 
@@ -155,22 +121,12 @@ fn run_case(bytes: &[u8], at: usize) -> Step {
     }
 }
 
-fn print(name: &[u8], count: u64) {
-    io::write_all(STDOUT_FILENO, name);
-    io::print_decimal(STDOUT_FILENO, count);
-    io::write_all(STDOUT_FILENO, b"\n");
-}
-
-fn print_malformed() {
-    io::write_all(STDOUT_FILENO, b"the sample is malformed\n");
-}
-
 fn print_counts(cases: u64, counts: Counts) {
-    print(b"cases ", cases);
-    print(b"trees ", counts.trees);
-    print(b"disconnected ", counts.disconnected);
-    print(b"with a cycle ", counts.cycles);
-    print(b"agree ", counts.agree);
+    print_count(b"cases ", cases);
+    print_count(b"trees ", counts.trees);
+    print_count(b"disconnected ", counts.disconnected);
+    print_count(b"with a cycle ", counts.cycles);
+    print_count(b"agree ", counts.agree);
 }
 
 // Runs all cases and prints the counts, or that the sample is malformed: it ends early, has bytes left or has a case that is too large.

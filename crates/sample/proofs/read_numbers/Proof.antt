@@ -3,8 +3,8 @@ use borrow.Author.Needs.{needs}
 use Prim.Native.Nat.{_-_}
 use mathlib.Core.Path.{_≡_}
 use lib.ListN.{length}
-use Rattle.replay.proofs.read_numbers.Statement.{statement}
-use Rattle.replay.proofs.read_numbers.Tie as tie
+use Rattle.sample.proofs.read_numbers.Statement.{statement}
+use Rattle.sample.proofs.read_numbers.Tie as tie
 
 abbrev Inv-loop : tie.InvT-loop
 Inv-loop bytes at out₀ from₀ k₀ out from k = length out ≡ length out₀
