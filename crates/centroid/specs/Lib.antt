@@ -2,3 +2,6 @@ pub mod Components
 pub mod Decomposition
 pub mod Lists
 pub mod Calls
+pub mod Search
+pub mod Parting
+pub mod Reads

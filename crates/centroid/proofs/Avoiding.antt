@@ -1,0 +1,77 @@
+-- Paths that avoid a vertex, and the parts that a component falls into when a vertex is removed.
+use Prim.Native.Nat.{ℕ, _*_, _≤_, _<_}
+use mathlib.Core.Path.{_≡_, refl, sym, ap, _∙_, subst}
+use mathlib.Core.Bool.{Bool, true, false, not, true≢false}
+use mathlib.Core.List.{List, _∷_}
+use lib.Dec.{eqb}
+use Rattle.sums.specs.Sum.{howMany}
+use Rattle.paths.specs.Walk.{In}
+use Rattle.paths.specs.Route.{ptail, On}
+use Rattle.centroid.specs.Components.{every, inPart, Halves, CentroidFrom}
+use Rattle.centroid.proofs.Tests.{every-in, in-every, other-true, other-ne, not-passed, passed-not-failed}
+use Rattle.centroid.proofs.Images.{howMany-same}
+
+-- the path from u to w avoids v
+abbrev pub avoids : (way : ℕ → ℕ → List ℕ) → ℕ → ℕ → ℕ → Bool
+avoids way v u w = every (λ y. not (eqb y v)) (u ∷ way u w)
+
+pub avoids-off : (par dep : ℕ → ℕ) (v u w : ℕ) → avoids (ptail par dep) v u w ≡ true → On par dep v u w → ⊥
+avoids-off par dep v u w e h = other-ne v v (every-in (λ y. not (eqb y v)) v (u ∷ ptail par dep u w) e h) refl
+
+pub off-avoids : (par dep : ℕ → ℕ) (v u w : ℕ) → (On par dep v u w → ⊥) → avoids (ptail par dep) v u w ≡ true
+off-avoids par dep v u w f =
+    in-every (λ y. not (eqb y v)) (u ∷ ptail par dep u w) (λ y h. other-true v y (λ e. f (subst (λ (z : ℕ). In z (u ∷ ptail par dep u w)) e h)))
+
+-- the path goes through v
+abbrev pub meets : (way : ℕ → ℕ → List ℕ) → ℕ → ℕ → ℕ → Bool
+meets way v u w = not (avoids way v u w)
+
+pub on-meets : (par dep : ℕ → ℕ) (v u w : ℕ) → On par dep v u w → meets (ptail par dep) v u w ≡ true
+on-meets par dep v u w h = ap not (not-passed (avoids (ptail par dep) v u w) (λ e. avoids-off par dep v u w e h))
+
+pub off-meets : (par dep : ℕ → ℕ) (v u w : ℕ) → (On par dep v u w → ⊥) → meets (ptail par dep) v u w ≡ false
+off-meets par dep v u w f = ap not (off-avoids par dep v u w f)
+
+pub meets-on : (par dep : ℕ → ℕ) (v u w : ℕ) → meets (ptail par dep) v u w ≡ true → (On par dep v u w → ⊥) → ⊥
+meets-on par dep v u w e f = passed-not-failed e (off-meets par dep v u w f)
+
+module _ (way : ℕ → ℕ → List ℕ) (C : ℕ → Bool) (v w x : ℕ) where
+  pub part-inside : inPart way C v w x ≡ true → C x ≡ true
+  part-inside e = go (C x) refl e
+    where
+      go : (b : Bool) → C x ≡ b → _≡_ {A = Bool} (elim b [ true ↦ every (λ y. not (eqb y v)) (w ∷ way w x) | false ↦ false ]) true → C x ≡ true
+      go true c e = c
+      go false c e = absurd (true≢false (sym e))
+
+  pub part-avoids : inPart way C v w x ≡ true → avoids way v w x ≡ true
+  part-avoids e = go (C x) e
+    where
+      go : (b : Bool) → _≡_ {A = Bool} (elim b [ true ↦ every (λ y. not (eqb y v)) (w ∷ way w x) | false ↦ false ]) true → avoids way v w x ≡ true
+      go true e = e
+      go false e = absurd (true≢false (sym e))
+
+  pub in-part : C x ≡ true → inPart way C v w x ≡ avoids way v w x
+  in-part e = rw (e, inPart) refl
+
+  pub out-part : C x ≡ false → inPart way C v w x ≡ false
+  out-part e = rw (e, inPart) refl
+
+-- components that agree on the vertices have the same parts and the same centroid
+module _ (n : ℕ) (way : ℕ → ℕ → List ℕ) (C C′ : ℕ → Bool) (same : (x : ℕ) → x < n → C x ≡ C′ x) where
+  part-same : (v w x : ℕ) → x < n → inPart way C v w x ≡ inPart way C′ v w x
+  part-same v w x h = ap (λ (b : Bool). elim b as (λ c. Bool) [ true ↦ every (λ y. not (eqb y v)) (w ∷ way w x) | false ↦ false ]) (same x h)
+
+  halves-same : (v : ℕ) → Halves n way C v → Halves n way C′ v
+  halves-same v f w hw c ne =
+      subst (λ (m : ℕ). 2 * m ≤ howMany n C′) (howMany-same n (inPart way C v w) (inPart way C′ v w) (part-same v w))
+      (subst (λ (m : ℕ). 2 * howMany n (inPart way C v w) ≤ m) (howMany-same n C C′ same) (f w hw (same w hw ∙ c) ne))
+
+module _ (n : ℕ) (way : ℕ → ℕ → List ℕ) (C C′ : ℕ → Bool) (same : (x : ℕ) → x < n → C x ≡ C′ x) where
+  pub centroid-same : {s c : ℕ} → s < n → c < n → CentroidFrom n way C s c → CentroidFrom n way C′ s c
+  centroid-same {s} {c} hs hc f =
+      record {
+        inside = sym (same c hc) ∙ f .inside;
+        start-inside = sym (same s hs) ∙ f .start-inside;
+        halves = halves-same n way C C′ same c (f .halves);
+        nearer = λ y hy cy ne h. f .nearer y hy (same y hy ∙ cy) ne (halves-same n way C′ C (λ x hx. sym (same x hx)) y h);
+      }

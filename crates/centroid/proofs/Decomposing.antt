@@ -1,0 +1,148 @@
+-- The decomposition from its start to its end.
+use Prim.Native.Nat.{ℕ, zero, _+_, _*_, _≤_, _<_, _/_, _%_, _^_}
+use native.Mathlib.Omega.{arith}
+use native.Mathlib.Nat.{zero-div}
+use mathlib.Core.Path.{_≡_, refl, sym, ap, _∙_}
+use mathlib.Core.Logic.{_≢_}
+use mathlib.Core.Bool.{true}
+use mathlib.Core.List.{List}
+use lib.Dec.{ltb, leb}
+use lib.ListN.{set, length-set}
+use borrow.Author.Tests.{le-ltb, le-leb, ne-eqb}
+use Rattle.sums.specs.Sum.{at, tally}
+use Rattle.sums.proofs.Sums.{sum-none}
+use Rattle.paths.specs.Walk.{Stands}
+use Rattle.paths.specs.Rooted.{Spans}
+use Rattle.paths.specs.Route.{ptail}
+use Rattle.graph.specs.Limits.{noParent}
+use Rattle.graph.specs.Lent.{listOf}
+use Rattle.graph.specs.Marks.{markOf}
+use Rattle.graph.specs.Work.{Only, Zeroed}
+use Rattle.graph.proofs.Frames.{only-refl, only-trans, only-wider, only-set, at-set-same, at-set-other}
+use Rattle.centroid.specs.Search.{live}
+use Rattle.centroid.specs.Parting.{first, Parting, PartingIn, RemoveAsks, Removed, DecomposeAsks, Decomposed}
+use Rattle.centroid.proofs.Living.{unmarked-live}
+use Rattle.centroid.proofs.Classes.{on-joined}
+use Rattle.centroid.proofs.Pending.{parting-few, parting-all, centroid-at-same}
+
+-- no vertex is removed, and 0 waits
+parting-start : {n : ℕ} {A : ℕ → List ℕ} {par dep : ℕ → ℕ} → Spans n (Stands A) 0 par dep → {S P L up : ℕ → ℕ} → 0 < n → S 0 ≡ 0 → P 0 ≡ noParent → L 0 ≡ 0
+    → Parting n A (ptail par dep) S P L (λ y. n) up 0 1
+parting-start {n} {A} {par} {dep} Sp {S} {P} {L} {up} hn s0 p0 l0 =
+    let zeroth : (j : ℕ) → j < 1 → j ≡ 0 = λ j h. omega arith in
+    let level : (j : ℕ) → j < 1 → L j ≡ 0 = λ j h. ap L (zeroth j h) ∙ l0 in
+    let start : (j : ℕ) → j < 1 → S j ≡ 0 = λ j h. ap S (zeroth j h) ∙ s0 in
+    record {
+      within = omega arith;
+      removed = sum-none n (λ x. tally (ltb n n)) (λ x h. ap tally (le-ltb n n (omega arith)));
+      centroids = λ c hc l. absurd (omega arith);
+      entries = λ j a b. record {
+        below = (let e = start j b in omega arith);
+        left = omega arith;
+        began = first (ap P (zeroth j b) ∙ p0) (level j b) (start j b);
+        own = λ x hx e. omega arith;
+        later = λ c hc l. absurd (omega arith);
+      };
+      apart = λ j l a b d e ne on. ne (zeroth j b ∙ sym (zeroth l e));
+      cover = λ x hx l. (0, omega arith, omega arith, on-joined (Sp .rooted) (λ y. leb n n) (S 0) x (λ y h. le-leb n n (omega arith)));
+      sorted = λ j l a b d. (let x = level j (omega arith) in let y = level l d in omega arith);
+      close = λ j l a b d e. (let x = level j b in let y = level l e in omega arith);
+      small = λ j a b. (let x = level j b in omega arith);
+    }
+
+-- work with the start 0, in cleared marks
+abbrev pub begun : ℕ → List ℕ → List ℕ
+begun n w = set (set (set w (0 * n) 0) (1 * n) 4_294_967_295) (2 * n) 0
+
+-- h entries were taken; w₀ is work as the loop began
+pub record Going (os ts : List ℕ) (n : ℕ) (w₀ up level w : List ℕ) (h t : ℕ) : Type 0 where
+  pub state : PartingIn os ts n up level w h t
+  pub only : Only 0 (7 * n) w₀ w
+
+no-parent : 4_294_967_295 ≡ noParent
+unfolding noParent
+no-parent = refl
+
+module _ {os ts : List ℕ} {n : ℕ} {up level w : List ℕ} (a : DecomposeAsks os ts n up level w) {z : List ℕ} (Z : Zeroed (3 * n) (4 * n) w z) where
+  pub begun-only : Only 0 (7 * n) w (begun n z)
+  begun-only =
+      let h = a .tree .some in
+      only-trans (only-wider (omega arith) (omega arith) (Z .only))
+      (only-trans (only-set z (0 * n) 0 (omega arith) (omega arith))
+      (only-trans (only-set (set z (0 * n) 0) (1 * n) 4_294_967_295 (omega arith) (omega arith))
+      (only-set (set (set z (0 * n) 0) (1 * n) 4_294_967_295) (2 * n) 0 (omega arith) (omega arith))))
+
+  begun-other : (j : ℕ) → j ≢ 0 * n → j ≢ 1 * n → j ≢ 2 * n → at (begun n z) j ≡ at z j
+  begun-other j p q r =
+      at-set-other (set (set z (0 * n) 0) (1 * n) 4_294_967_295) (2 * n) 0 j r
+      ∙ at-set-other (set z (0 * n) 0) (1 * n) 4_294_967_295 j q
+      ∙ at-set-other z (0 * n) 0 j p
+
+  none-marked : (y : ℕ) → y < n → live (begun n z) n y ≡ true
+  none-marked y hy =
+      let zero′ : at (begun n z) (3 * n + y / 32) ≡ 0
+      = begun-other (3 * n + y / 32) (omega arith) (omega arith) (omega arith) ∙ Z .zero (3 * n + y / 32) (omega arith) (omega arith) in
+      let m : markOf (begun n z) (3 * n) y ≡ 0
+      = ap (λ (x : ℕ). x / 2 ^ (y % 32) % 2) zero′ ∙ ap (λ (x : ℕ). x % 2) (zero-div (2 ^ (y % 32))) in
+      unmarked-live (begun n z) n y hy (ne-eqb (markOf (begun n z) (3 * n) y) 1 (omega arith))
+
+  pub going-start : Going os ts n (begun n z) up level (begun n z) 0 1
+  going-start =
+      let some = a .tree .some in
+      let room = a .room in
+      let l₀ = Z .only .same-length in
+      let l₁ = length-set z (0 * n) 0 in
+      let l₂ = length-set (set z (0 * n) 0) (1 * n) 4_294_967_295 in
+      let first-at : (b : ℕ) → at (begun n z) (b + 0) ≡ at (begun n z) b = λ b. ap (at (begun n z)) (let e : b + 0 ≡ b = omega arith in e) in
+      record {
+        state = record {
+          lv = λ y. n;
+          up-long = a .up-long;
+          level-long = a .level-long;
+          levels = λ c hc l. absurd (omega arith);
+          marks = λ y hy. none-marked y hy ∙ sym (le-leb n n (omega arith));
+          parting = λ par dep S. parting-start S some
+              (first-at (0 * n)
+              ∙ at-set-other (set (set z (0 * n) 0) (1 * n) 4_294_967_295) (2 * n) 0 (0 * n) (omega arith)
+              ∙ at-set-other (set z (0 * n) 0) (1 * n) 4_294_967_295 (0 * n) (omega arith)
+              ∙ at-set-same z (0 * n) 0 (omega arith))
+              (first-at (1 * n)
+              ∙ at-set-other (set (set z (0 * n) 0) (1 * n) 4_294_967_295) (2 * n) 0 (1 * n) (omega arith)
+              ∙ at-set-same (set z (0 * n) 0) (1 * n) 4_294_967_295 (omega arith)
+              ∙ no-parent)
+              (first-at (2 * n) ∙ at-set-same (set (set z (0 * n) 0) (1 * n) 4_294_967_295) (2 * n) 0 (omega arith));
+        };
+        only = only-refl 0 (7 * n) (begun n z);
+      }
+
+  module _ {up₁ level₁ v : List ℕ} {h t : ℕ} (g : Going os ts n (begun n z) up₁ level₁ v h t) where
+    now-parting : Parting n (listOf os ts) (ptail (a .tree .par) (a .tree .dep)) (λ j. at v (0 * n + j)) (λ j. at v (1 * n + j)) (λ j. at v (2 * n + j)) (g .state .lv) (at up₁) h t
+    now-parting = g .state .parting (a .tree .par) (a .tree .dep) (a .tree .spans)
+
+    pub going-few : (h ≤ t) × (t ≤ n)
+    going-few = (now-parting .within, parting-few (a .tree .spans) now-parting)
+
+    pub going-asks : h < t → RemoveAsks os ts n h t up₁ level₁ v
+    going-asks more =
+        record { tree = a .tree; room = omega (arith, a .room, g .only .same-length, begun-only .same-length); some = more; state = g .state }
+
+    pub going-more : {up₂ level₂ v′ : List ℕ} {t′ : ℕ} → Removed os ts n h v up₂ level₂ v′ t′ → Going os ts n (begun n z) up₂ level₂ v′ (h + 1) t′
+    going-more r = record { state = r .state; only = only-trans (g .only) (r .only) }
+
+    -- none waits: both tables are written
+    pub going-done : h ≡ t → Decomposed os ts n up₁ level₁ w v
+    going-done e =
+        let lv : ℕ → ℕ = g .state .lv in
+        let gone : (x : ℕ) → x < n → lv x < n = parting-all (a .tree .spans) now-parting e in
+        let held : (x : ℕ) → x < n → at level₁ x ≡ lv x = λ x hx. g .state .levels x hx (gone x hx) in
+        record {
+          tables = record {
+            up-long = g .state .up-long;
+            level-long = g .state .level-long;
+            centroids = λ par dep S c hc.
+                centroid-at-same S hc (gone c hc) refl (held c hc) (λ u hu l. held u hu)
+                (λ y hy. ap (λ (x : ℕ). leb x (lv y)) (sym (held c hc)) ∙ ap (leb (at level₁ c)) (sym (held y hy)))
+                (g .state .parting par dep S .centroids c hc (gone c hc));
+          };
+          only = only-trans begun-only (g .only);
+        }
