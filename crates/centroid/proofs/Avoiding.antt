@@ -15,9 +15,11 @@ use Rattle.centroid.proofs.Images.{howMany-same}
 abbrev pub avoids : (way : ℕ → ℕ → List ℕ) → ℕ → ℕ → ℕ → Bool
 avoids way v u w = every (λ y. not (eqb y v)) (u ∷ way u w)
 
+-- a path that avoids v does not meet it
 pub avoids-off : (par dep : ℕ → ℕ) (v u w : ℕ) → avoids (ptail par dep) v u w ≡ true → On par dep v u w → ⊥
 avoids-off par dep v u w e h = other-ne v v (every-in (λ y. not (eqb y v)) v (u ∷ ptail par dep u w) e h) refl
 
+-- a path that does not meet v avoids it
 pub off-avoids : (par dep : ℕ → ℕ) (v u w : ℕ) → (On par dep v u w → ⊥) → avoids (ptail par dep) v u w ≡ true
 off-avoids par dep v u w f =
     in-every (λ y. not (eqb y v)) (u ∷ ptail par dep u w) (λ y h. other-true v y (λ e. f (subst (λ (z : ℕ). In z (u ∷ ptail par dep u w)) e h)))
@@ -26,23 +28,20 @@ off-avoids par dep v u w f =
 abbrev pub meets : (way : ℕ → ℕ → List ℕ) → ℕ → ℕ → ℕ → Bool
 meets way v u w = not (avoids way v u w)
 
+-- a path that v is on goes through it
 pub on-meets : (par dep : ℕ → ℕ) (v u w : ℕ) → On par dep v u w → meets (ptail par dep) v u w ≡ true
 on-meets par dep v u w h = ap not (not-passed (avoids (ptail par dep) v u w) (λ e. avoids-off par dep v u w e h))
 
+-- a path that v is not on does not
 pub off-meets : (par dep : ℕ → ℕ) (v u w : ℕ) → (On par dep v u w → ⊥) → meets (ptail par dep) v u w ≡ false
 off-meets par dep v u w f = ap not (off-avoids par dep v u w f)
 
+-- what goes through v meets it
 pub meets-on : (par dep : ℕ → ℕ) (v u w : ℕ) → meets (ptail par dep) v u w ≡ true → (On par dep v u w → ⊥) → ⊥
 meets-on par dep v u w e f = passed-not-failed e (off-meets par dep v u w f)
 
 module _ (way : ℕ → ℕ → List ℕ) (C : ℕ → Bool) (v w x : ℕ) where
-  pub part-inside : inPart way C v w x ≡ true → C x ≡ true
-  part-inside e = go (C x) refl e
-    where
-      go : (b : Bool) → C x ≡ b → _≡_ {A = Bool} (elim b [ true ↦ every (λ y. not (eqb y v)) (w ∷ way w x) | false ↦ false ]) true → C x ≡ true
-      go true c e = c
-      go false c e = absurd (true≢false (sym e))
-
+  -- a vertex of a part is reached without v
   pub part-avoids : inPart way C v w x ≡ true → avoids way v w x ≡ true
   part-avoids e = go (C x) e
     where
@@ -50,9 +49,11 @@ module _ (way : ℕ → ℕ → List ℕ) (C : ℕ → Bool) (v w x : ℕ) where
       go true e = e
       go false e = absurd (true≢false (sym e))
 
+  -- inside the component, that is all it says
   pub in-part : C x ≡ true → inPart way C v w x ≡ avoids way v w x
   in-part e = rw (e, inPart) refl
 
+  -- outside there is no part
   pub out-part : C x ≡ false → inPart way C v w x ≡ false
   out-part e = rw (e, inPart) refl
 
@@ -67,6 +68,7 @@ module _ (n : ℕ) (way : ℕ → ℕ → List ℕ) (C C′ : ℕ → Bool) (sam
       (subst (λ (m : ℕ). 2 * howMany n (inPart way C v w) ≤ m) (howMany-same n C C′ same) (f w hw (same w hw ∙ c) ne))
 
 module _ (n : ℕ) (way : ℕ → ℕ → List ℕ) (C C′ : ℕ → Bool) (same : (x : ℕ) → x < n → C x ≡ C′ x) where
+  -- so the centroid is the same
   pub centroid-same : {s c : ℕ} → s < n → c < n → CentroidFrom n way C s c → CentroidFrom n way C′ s c
   centroid-same {s} {c} hs hc f =
       record {

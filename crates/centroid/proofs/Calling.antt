@@ -64,12 +64,15 @@ module _ (os ts up level w : List ℕ) where
         work = record { zeroed = λ s r. absurd (f s); kept = λ k. refl };
       }
 
+  -- n or E is beyond its limit
   pub bad-sizes : (Sized os ts → ⊥) → Decomposes os ts up level w up level w badSize
   bad-sizes f = bad-size (λ s. f (s .sized))
 
+  -- a table is not of length n
   pub bad-parent : length up ≢ vertices os → Decomposes os ts up level w up level w badSize
   bad-parent ne = bad-size (λ s. ne (s .up-long))
 
+  -- the other one is not
   pub bad-level : length level ≢ vertices os → Decomposes os ts up level w up level w badSize
   bad-level ne = bad-size (λ s. ne (s .level-long))
 
@@ -77,6 +80,7 @@ module _ (os ts up level w : List ℕ) where
     fits : Fits os ts up level
     fits = record { sized = s; up-long = lu; level-long = ll }
 
+    -- work is too short
     pub no-room : length w < roomOf os ts → Decomposes os ts up level w up level w noRoom
     no-room h =
         record {
@@ -87,6 +91,7 @@ module _ (os ts up level w : List ℕ) where
         }
 
     module _ (room : roomOf os ts ≤ length w) {w₁ : List ℕ} {c : ℕ} (j : Judged os ts 0 w w₁ c) where
+      -- one of the tests 3 to 8 refuses
       pub not-tree : c ≢ done → {w₂ : List ℕ} → Zeroed 0 (roomOf os ts) w₁ w₂ → Decomposes os ts up level w up level w₂ c
       not-tree ne z =
           record {
@@ -96,10 +101,12 @@ module _ (os ts up level w : List ℕ) where
             work = record { zeroed = λ f r. zeroed-cleared r (j .only) z; kept = λ k. absurd (k (fits, room)) };
           }
 
+      -- all are passed: the tree can be decomposed
       pub tree-asks : c ≡ done → DecomposeAsks os ts (vertices os) up level w₁
       tree-asks z =
           record { tree = lent-tree s j z; up-long = lu; level-long = ll; room = (let l = j .only .same-length in omega arith) }
 
+      -- and is
       pub is-tree : c ≡ done → {up′ level′ w₂ w₃ : List ℕ} → Decomposed os ts (vertices os) up′ level′ w₁ w₂ → Zeroed 0 (roomOf os ts) w₂ w₃
           → Decomposes os ts up level w up′ level′ w₃ done
       is-tree e d z =

@@ -17,6 +17,7 @@ module _ {n root : ℕ} {par dep : ℕ → ℕ} (R : Rooted n root par dep) wher
   pub joined-on : (g : ℕ → Bool) (s x y : ℕ) → joinedBy (ptail par dep) g s x ≡ true → On par dep y s x → g y ≡ true
   joined-on g s x y e h = every-in g y (s ∷ ptail par dep s x) e h
 
+  -- where each vertex on the path passes, its ends are joined
   pub on-joined : (g : ℕ → Bool) (s x : ℕ) → ((y : ℕ) → On par dep y s x → g y ≡ true) → joinedBy (ptail par dep) g s x ≡ true
   on-joined g s x f = in-every g (s ∷ ptail par dep s x) f
 
@@ -28,12 +29,15 @@ module _ {n root : ℕ} {par dep : ℕ → ℕ} (R : Rooted n root par dep) wher
   pub joined-first : (g : ℕ → Bool) (s x : ℕ) → joinedBy (ptail par dep) g s x ≡ true → g s ≡ true
   joined-first g s x e = joined-on g s x s e (inl refl)
 
+  -- the last vertex passes
   pub joined-last : (g : ℕ → Bool) {s x : ℕ} → s < n → x < n → joinedBy (ptail par dep) g s x ≡ true → g x ≡ true
   joined-last g {s} {x} hs hx e = joined-on g s x x e (on-last R hs hx)
 
+  -- the other way round
   pub joined-turn : (g : ℕ → Bool) {s x : ℕ} → s < n → x < n → joinedBy (ptail par dep) g s x ≡ true → joinedBy (ptail par dep) g x s ≡ true
   joined-turn g {s} {x} hs hx e = on-joined g x s (λ y h. joined-on g s x y e (on-turn R y hx hs h))
 
+  -- by way of a third
   pub joined-trans : (g : ℕ → Bool) {s x y : ℕ} → s < n → x < n → y < n → joinedBy (ptail par dep) g s x ≡ true → joinedBy (ptail par dep) g x y ≡ true
       → joinedBy (ptail par dep) g s y ≡ true
   joined-trans g {s} {x} {y} hs hx hy e f = on-joined g s y (λ z h. ⊎-elim (joined-on g s x z e) (joined-on g x y z f) (cover R z hs hy hx h))

@@ -1,5 +1,5 @@
 -- The decomposition from its start to its end.
-use Prim.Native.Nat.{ℕ, zero, _+_, _*_, _≤_, _<_, _/_, _%_, _^_}
+use Prim.Native.Nat.{ℕ, zero, _+_, _≤_, _<_, _/_, _%_, _^_}
 use native.Mathlib.Omega.{arith}
 use native.Mathlib.Nat.{zero-div}
 use mathlib.Core.Path.{_≡_, refl, sym, ap, _∙_}
@@ -19,6 +19,7 @@ use Rattle.graph.specs.Lent.{listOf}
 use Rattle.graph.specs.Marks.{markOf}
 use Rattle.graph.specs.Work.{Only, Zeroed}
 use Rattle.graph.proofs.Frames.{only-refl, only-trans, only-wider, only-set, at-set-same, at-set-other}
+use Rattle.centroid.specs.Regions.{startsFrom, startAt, parentsFrom, parentAt, levelsFrom, levelAt, removedFrom, queueFrom, regionsEnd}
 use Rattle.centroid.specs.Search.{live}
 use Rattle.centroid.specs.Parting.{first, Parting, PartingIn, RemoveAsks, Removed, DecomposeAsks, Decomposed}
 use Rattle.centroid.proofs.Living.{unmarked-live}
@@ -50,49 +51,55 @@ parting-start {n} {A} {par} {dep} Sp {S} {P} {L} {up} hn s0 p0 l0 =
       small = λ j a b. (let x = level j b in omega arith);
     }
 
+-- "no parent" as the code has it
+abbrev pub none : ℕ
+none = 4_294_967_295
+
+no-parent : none ≡ noParent
+unfolding noParent
+no-parent = refl
+
 -- work with the start 0, in cleared marks
 abbrev pub begun : ℕ → List ℕ → List ℕ
-begun n w = set (set (set w (0 * n) 0) (1 * n) 4_294_967_295) (2 * n) 0
+begun n w = set (set (set w (startsFrom n) 0) (parentsFrom n) none) (levelsFrom n) 0
 
 -- h entries were taken; w₀ is work as the loop began
 pub record Going (os ts : List ℕ) (n : ℕ) (w₀ up level w : List ℕ) (h t : ℕ) : Type 0 where
   pub state : PartingIn os ts n up level w h t
-  pub only : Only 0 (7 * n) w₀ w
+  pub only : Only 0 (regionsEnd n) w₀ w
 
-no-parent : 4_294_967_295 ≡ noParent
-unfolding noParent
-no-parent = refl
-
-module _ {os ts : List ℕ} {n : ℕ} {up level w : List ℕ} (a : DecomposeAsks os ts n up level w) {z : List ℕ} (Z : Zeroed (3 * n) (4 * n) w z) where
-  pub begun-only : Only 0 (7 * n) w (begun n z)
+module _ {os ts : List ℕ} {n : ℕ} {up level w : List ℕ} (a : DecomposeAsks os ts n up level w) {z : List ℕ} (Z : Zeroed (removedFrom n) (queueFrom n) w z) where
+  -- what was written before the loop
+  pub begun-only : Only 0 (regionsEnd n) w (begun n z)
   begun-only =
       let h = a .tree .some in
       only-trans (only-wider (omega arith) (omega arith) (Z .only))
-      (only-trans (only-set z (0 * n) 0 (omega arith) (omega arith))
-      (only-trans (only-set (set z (0 * n) 0) (1 * n) 4_294_967_295 (omega arith) (omega arith))
-      (only-set (set (set z (0 * n) 0) (1 * n) 4_294_967_295) (2 * n) 0 (omega arith) (omega arith))))
+      (only-trans (only-set z (startsFrom n) 0 (omega arith) (omega arith))
+      (only-trans (only-set (set z (startsFrom n) 0) (parentsFrom n) none (omega arith) (omega arith))
+      (only-set (set (set z (startsFrom n) 0) (parentsFrom n) none) (levelsFrom n) 0 (omega arith) (omega arith))))
 
-  begun-other : (j : ℕ) → j ≢ 0 * n → j ≢ 1 * n → j ≢ 2 * n → at (begun n z) j ≡ at z j
+  begun-other : (j : ℕ) → j ≢ startsFrom n → j ≢ parentsFrom n → j ≢ levelsFrom n → at (begun n z) j ≡ at z j
   begun-other j p q r =
-      at-set-other (set (set z (0 * n) 0) (1 * n) 4_294_967_295) (2 * n) 0 j r
-      ∙ at-set-other (set z (0 * n) 0) (1 * n) 4_294_967_295 j q
-      ∙ at-set-other z (0 * n) 0 j p
+      at-set-other (set (set z (startsFrom n) 0) (parentsFrom n) none) (levelsFrom n) 0 j r
+      ∙ at-set-other (set z (startsFrom n) 0) (parentsFrom n) none j q
+      ∙ at-set-other z (startsFrom n) 0 j p
 
   none-marked : (y : ℕ) → y < n → live (begun n z) n y ≡ true
   none-marked y hy =
-      let zero′ : at (begun n z) (3 * n + y / 32) ≡ 0
-      = begun-other (3 * n + y / 32) (omega arith) (omega arith) (omega arith) ∙ Z .zero (3 * n + y / 32) (omega arith) (omega arith) in
-      let m : markOf (begun n z) (3 * n) y ≡ 0
+      let zero′ : at (begun n z) (removedFrom n + y / 32) ≡ 0
+      = begun-other (removedFrom n + y / 32) (omega arith) (omega arith) (omega arith) ∙ Z .zero (removedFrom n + y / 32) (omega arith) (omega arith) in
+      let m : markOf (begun n z) (removedFrom n) y ≡ 0
       = ap (λ (x : ℕ). x / 2 ^ (y % 32) % 2) zero′ ∙ ap (λ (x : ℕ). x % 2) (zero-div (2 ^ (y % 32))) in
-      unmarked-live (begun n z) n y hy (ne-eqb (markOf (begun n z) (3 * n) y) 1 (omega arith))
+      unmarked-live (begun n z) n y hy (ne-eqb (markOf (begun n z) (removedFrom n) y) 1 (omega arith))
 
+  -- none was taken
   pub going-start : Going os ts n (begun n z) up level (begun n z) 0 1
   going-start =
       let some = a .tree .some in
       let room = a .room in
       let l₀ = Z .only .same-length in
-      let l₁ = length-set z (0 * n) 0 in
-      let l₂ = length-set (set z (0 * n) 0) (1 * n) 4_294_967_295 in
+      let l₁ = length-set z (startsFrom n) 0 in
+      let l₂ = length-set (set z (startsFrom n) 0) (parentsFrom n) none in
       let first-at : (b : ℕ) → at (begun n z) (b + 0) ≡ at (begun n z) b = λ b. ap (at (begun n z)) (let e : b + 0 ≡ b = omega arith in e) in
       record {
         state = record {
@@ -102,30 +109,33 @@ module _ {os ts : List ℕ} {n : ℕ} {up level w : List ℕ} (a : DecomposeAsks
           levels = λ c hc l. absurd (omega arith);
           marks = λ y hy. none-marked y hy ∙ sym (le-leb n n (omega arith));
           parting = λ par dep S. parting-start S some
-              (first-at (0 * n)
-              ∙ at-set-other (set (set z (0 * n) 0) (1 * n) 4_294_967_295) (2 * n) 0 (0 * n) (omega arith)
-              ∙ at-set-other (set z (0 * n) 0) (1 * n) 4_294_967_295 (0 * n) (omega arith)
-              ∙ at-set-same z (0 * n) 0 (omega arith))
-              (first-at (1 * n)
-              ∙ at-set-other (set (set z (0 * n) 0) (1 * n) 4_294_967_295) (2 * n) 0 (1 * n) (omega arith)
-              ∙ at-set-same (set z (0 * n) 0) (1 * n) 4_294_967_295 (omega arith)
+              (first-at (startsFrom n)
+              ∙ at-set-other (set (set z (startsFrom n) 0) (parentsFrom n) none) (levelsFrom n) 0 (startsFrom n) (omega arith)
+              ∙ at-set-other (set z (startsFrom n) 0) (parentsFrom n) none (startsFrom n) (omega arith)
+              ∙ at-set-same z (startsFrom n) 0 (omega arith))
+              (first-at (parentsFrom n)
+              ∙ at-set-other (set (set z (startsFrom n) 0) (parentsFrom n) none) (levelsFrom n) 0 (parentsFrom n) (omega arith)
+              ∙ at-set-same (set z (startsFrom n) 0) (parentsFrom n) none (omega arith)
               ∙ no-parent)
-              (first-at (2 * n) ∙ at-set-same (set (set z (0 * n) 0) (1 * n) 4_294_967_295) (2 * n) 0 (omega arith));
+              (first-at (levelsFrom n) ∙ at-set-same (set (set z (startsFrom n) 0) (parentsFrom n) none) (levelsFrom n) 0 (omega arith));
         };
-        only = only-refl 0 (7 * n) (begun n z);
+        only = only-refl 0 (regionsEnd n) (begun n z);
       }
 
   module _ {up₁ level₁ v : List ℕ} {h t : ℕ} (g : Going os ts n (begun n z) up₁ level₁ v h t) where
-    now-parting : Parting n (listOf os ts) (ptail (a .tree .par) (a .tree .dep)) (λ j. at v (0 * n + j)) (λ j. at v (1 * n + j)) (λ j. at v (2 * n + j)) (g .state .lv) (at up₁) h t
+    now-parting : Parting n (listOf os ts) (ptail (a .tree .par) (a .tree .dep)) (λ j. at v (startAt n j)) (λ j. at v (parentAt n j)) (λ j. at v (levelAt n j)) (g .state .lv) (at up₁) h t
     now-parting = g .state .parting (a .tree .par) (a .tree .dep) (a .tree .spans)
 
+    -- there are never more starts than vertices
     pub going-few : (h ≤ t) × (t ≤ n)
     going-few = (now-parting .within, parting-few (a .tree .spans) now-parting)
 
+    -- the next one can be taken
     pub going-asks : h < t → RemoveAsks os ts n h t up₁ level₁ v
     going-asks more =
         record { tree = a .tree; room = omega (arith, a .room, g .only .same-length, begun-only .same-length); some = more; state = g .state }
 
+    -- one more was taken
     pub going-more : {up₂ level₂ v′ : List ℕ} {t′ : ℕ} → Removed os ts n h v up₂ level₂ v′ t′ → Going os ts n (begun n z) up₂ level₂ v′ (h + 1) t′
     going-more r = record { state = r .state; only = only-trans (g .only) (r .only) }
 

@@ -1,5 +1,5 @@
 -- The search for a centroid: what its two passes hand over.
-use Prim.Native.Nat.{ℕ, _*_, _<_}
+use Prim.Native.Nat.{ℕ, _<_}
 use native.Mathlib.Omega.{arith}
 use mathlib.Core.Path.{_≡_, sym, ap, _∙_, subst}
 use mathlib.Core.Bool.{Bool}
@@ -8,6 +8,7 @@ use Rattle.paths.specs.Route.{ptail}
 use Rattle.graph.specs.Lent.{listOf}
 use Rattle.graph.proofs.Frames.{only-trans}
 use Rattle.centroid.specs.Components.{CentroidFrom}
+use Rattle.centroid.specs.Regions.{regionsEnd}
 use Rattle.centroid.specs.Search.{live, joinedBy, Spread, WalkAsks, Walked, PickAsks, Hangs, Picked, Found}
 use Rattle.centroid.proofs.Living.{live-behind}
 use Rattle.centroid.proofs.Spreading.{spread-few}
@@ -43,7 +44,7 @@ module _ {os ts : List ℕ} {n s : ℕ} {w : List ℕ} (a : WalkAsks os ts n s w
         below = subst (λ (x : ℕ). x < n) (sym e) (now-spread .below j (r .inside));
         centroid = λ par dep S.
             (let M = v .spread .spread par dep S in
-            subst (λ (g : ℕ → Bool). CentroidFrom n (ptail par dep) (joinedBy (ptail par dep) g s) s c) (live-behind n (7 * n) (v .only))
+            subst (λ (g : ℕ → Bool). CentroidFrom n (ptail par dep) (joinedBy (ptail par dep) g s) s c) (live-behind n (regionsEnd n) (v .only))
             (subst (CentroidFrom n (ptail par dep) (joinedBy (ptail par dep) (live w₁ n) s) s) (sym e)
             (heavy-centroid S M (a .start) j (r .inside) (r .heavy (hanging S M (a .start)) (hangs-same (v .spread .from) (hangs S M (a .start)))))));
         only = only-trans (v .only) (r .only);

@@ -44,6 +44,7 @@ module _ {n : ℕ} {A : ℕ → List ℕ} {par dep : ℕ → ℕ} (S : Spans n (
       ∙ every-next g (q j) (q (p j) ∷ ptail par dep (q (p j)) s) (M .passing j h)
       ∙ chain f (p j) (omega arith) (omega arith))
 
+  -- so s is joined to each of them
   pub met-joined : (j : ℕ) → j < t → joinedBy (ptail par dep) g s (q j) ≡ true
   met-joined j h = joined-turn (S .rooted) g (M .below j h) hs (chain j j (omega arith) h)
 
@@ -56,6 +57,7 @@ module _ {n : ℕ} {A : ℕ → List ℕ} {par dep : ℕ → ℕ} (S : Spans n (
       let c = M .closed j (i .0) h (subst (λ (x : ℕ). i .0 < length (A x)) (sym e) (i .1)) (ap g same ∙ pass w (inl refl)) in
       along P w v (c .0) (c .1) (c .2 ∙ same) (f .1) (λ y k. pass y (inr k))
 
+  -- so the vertices met are the component
   pub joined-met : (x : ℕ) → x < n → joinedBy (ptail par dep) g s x ≡ true → (l : ℕ) × (l < t) × (q l ≡ x)
   joined-met x hx e = along (ptail par dep s x) s x 0 (M .some) (M .start) (path-simple S hs hx .walk) (λ y h. joined-on (S .rooted) g s x y e (inr h))
 
@@ -97,6 +99,7 @@ module _ {n : ℕ} {A : ℕ → List ℕ} {par dep : ℕ → ℕ} (S : Spans n (
       early-off f j (p l) (omega arith) hj (omega arith) (subst (λ (m : List ℕ). In (q j) m) (M .step l (omega arith) (omega arith)) i)))
       on
 
+  -- hanging is what the positions say
   pub hangs : Hangs t p hanging
   hangs =
       record {
@@ -185,6 +188,7 @@ module _ {n : ℕ} {A : ℕ → List ℕ} {par dep : ℕ → ℕ} (S : Spans n (
         let more = heavy .more in
         absurd (omega arith))
 
+    -- so it is the centroid
     pub heavy-centroid : CentroidFrom n (ptail par dep) (joinedBy (ptail par dep) g s) s (q j)
     heavy-centroid =
         record {

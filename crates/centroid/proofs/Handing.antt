@@ -10,6 +10,7 @@ use Rattle.sums.specs.Sum.{at, tally, sum, howMany}
 use Rattle.sums.proofs.Sums.{equal-or-not, sum-ext, sum-ones, sum-none, sum-term, sum-change}
 use Rattle.graph.specs.Work.{Only}
 use Rattle.graph.proofs.Frames.{only-refl, only-trans, only-wider, only-set, at-set-same, at-set-other}
+use Rattle.centroid.specs.Regions.{queueAt, fromAt, sizesFrom, sizeAt, regionsEnd}
 use Rattle.centroid.specs.Search.{PickAsks, Hangs, Picked}
 
 -- a size where the test passes, else 0
@@ -49,24 +50,25 @@ weighed-moved b size size′ k f same e = go (b f) refl
 -- the positions from k on have handed their sizes back, and none of them is heavy
 pub record Handing (n t : ℕ) (w₀ w : List ℕ) (k : ℕ) : Type 0 where
   pub within : k ≤ t
-  pub whole : sum k (λ i. at w (6 * n + i)) ≡ t
-  pub parts : (on : ℕ → ℕ → Bool) → Hangs t (λ j. at w₀ (5 * n + j)) on → (j : ℕ) → j < k → sum k (weighed (on j) (λ i. at w (6 * n + i))) ≡ howMany t (on j)
-  pub light : (on : ℕ → ℕ → Bool) → Hangs t (λ j. at w₀ (5 * n + j)) on → (l : ℕ) → k ≤ l → l < t → 2 * howMany t (on l) ≤ t
-  pub only : Only (6 * n) (7 * n) w₀ w
+  pub whole : sum k (λ i. at w (sizeAt n i)) ≡ t
+  pub parts : (on : ℕ → ℕ → Bool) → Hangs t (λ j. at w₀ (fromAt n j)) on → (j : ℕ) → j < k → sum k (weighed (on j) (λ i. at w (sizeAt n i))) ≡ howMany t (on j)
+  pub light : (on : ℕ → ℕ → Bool) → Hangs t (λ j. at w₀ (fromAt n j)) on → (l : ℕ) → k ≤ l → l < t → 2 * howMany t (on l) ≤ t
+  pub only : Only (sizesFrom n) (regionsEnd n) w₀ w
 
+-- no size was handed back
 pub handing-start : {n t : ℕ} {w : List ℕ} → PickAsks n t w → Handing n t w w t
 handing-start {n} {t} {w} a =
     record {
       within = omega arith;
-      whole = sum-ext t (λ i. at w (6 * n + i)) (λ i. 1) (a .ones) ∙ sum-ones t;
-      parts = λ on h j hj. sum-ext t (weighed (on j) (λ i. at w (6 * n + i))) (λ i. tally (on j i)) (λ i hi. weighed-one (on j) (λ l. at w (6 * n + l)) i (a .ones i hi));
+      whole = sum-ext t (λ i. at w (sizeAt n i)) (λ i. 1) (a .ones) ∙ sum-ones t;
+      parts = λ on h j hj. sum-ext t (weighed (on j) (λ i. at w (sizeAt n i))) (λ i. tally (on j i)) (λ i hi. weighed-one (on j) (λ l. at w (sizeAt n l)) i (a .ones i hi));
       light = λ on h l a b. absurd (omega arith);
-      only = only-refl (6 * n) (7 * n) w;
+      only = only-refl (sizesFrom n) (regionsEnd n) w;
     }
 
 module _ (n t : ℕ) (w₀ : List ℕ) (a : PickAsks n t w₀) where
   -- where the vertices and the positions stand, nothing changed
-  kept : {w : List ℕ} {k : ℕ} → Handing n t w₀ w k → (i : ℕ) → i < 6 * n → at w i ≡ at w₀ i
+  kept : {w : List ℕ} {k : ℕ} → Handing n t w₀ w k → (i : ℕ) → i < sizesFrom n → at w i ≡ at w₀ i
   kept H i h = H .only .before i h
 
   module _ (k : ℕ) (w : List ℕ) (H : Handing n t w₀ w (suc k)) where
@@ -77,85 +79,85 @@ module _ (n t : ℕ) (w₀ : List ℕ) (a : PickAsks n t w₀) where
     few = a .few
 
     -- the size at the last position that is left is its own
-    size-at : (on : ℕ → ℕ → Bool) → Hangs t (λ j. at w₀ (5 * n + j)) on → at w (6 * n + k) ≡ howMany t (on k)
+    size-at : (on : ℕ → ℕ → Bool) → Hangs t (λ j. at w₀ (fromAt n j)) on → at w (sizeAt n k) ≡ howMany t (on k)
     size-at on h =
-        let none : sum k (weighed (on k) (λ i. at w (6 * n + i))) ≡ 0
-        = sum-none k (weighed (on k) (λ i. at w (6 * n + i))) (λ i hi. weighed-out (on k) (λ i. at w (6 * n + i)) i (h .before k i inside hi)) in
-        let one : weighed (on k) (λ i. at w (6 * n + i)) k ≡ at w (6 * n + k) = weighed-in (on k) (λ i. at w (6 * n + i)) k (h .self k inside) in
+        let none : sum k (weighed (on k) (λ i. at w (sizeAt n i))) ≡ 0
+        = sum-none k (weighed (on k) (λ i. at w (sizeAt n i))) (λ i hi. weighed-out (on k) (λ i. at w (sizeAt n i)) i (h .before k i inside hi)) in
+        let one : weighed (on k) (λ i. at w (sizeAt n i)) k ≡ at w (sizeAt n k) = weighed-in (on k) (λ i. at w (sizeAt n i)) k (h .self k inside) in
         let all = H .parts on h k (omega arith) in
         omega arith
 
     -- a heavy position
-    handing-found : t < 2 * at w (6 * n + k) → Picked n t w₀ w (at w (4 * n + k))
+    handing-found : t < 2 * at w (sizeAt n k) → Picked n t w₀ w (at w (queueAt n k))
     handing-found more =
         let hk = inside in
         let hf = few in
         record {
           place = k;
           inside = hk;
-          answer = kept H (4 * n + k) (omega arith);
+          answer = kept H (queueAt n k) (omega arith);
           heavy = λ on h. record { more = (let e = size-at on h in omega arith); last = λ l x y. H .light on h l x y };
           only = only-wider (omega arith) (omega arith) (H .only);
         }
 
     -- the sizes that are left are no more than all
-    handing-small : at w (6 * n + k) ≤ t
+    handing-small : at w (sizeAt n k) ≤ t
     handing-small = (let e = H .whole in omega arith)
 
-    module _ (less : 2 * at w (6 * n + k) ≤ t) where
+    module _ (less : 2 * at w (sizeAt n k) ≤ t) where
       -- the first position is heavy
       later : 0 < k
       later = equal-or-not k 0
           (λ e.
-          let z : sum 1 (λ i. at w (6 * n + i)) ≡ t = subst (λ (x : ℕ). sum (suc x) (λ i. at w (6 * n + i)) ≡ t) e (H .whole) in
-          let y : at w (6 * n + k) ≡ at w (6 * n + 0) = ap (λ (x : ℕ). at w (6 * n + x)) e in
+          let z : sum 1 (λ i. at w (sizeAt n i)) ≡ t = subst (λ (x : ℕ). sum (suc x) (λ i. at w (sizeAt n i)) ≡ t) e (H .whole) in
+          let y : at w (sizeAt n k) ≡ at w (sizeAt n 0) = ap (λ (x : ℕ). at w (sizeAt n x)) e in
           let s = a .some in
           absurd (omega arith))
           (λ ne. omega arith)
 
-      from-kept : at w (5 * n + k) ≡ at w₀ (5 * n + k)
-      from-kept = (let h = inside in let f = few in kept H (5 * n + k) (omega arith))
+      from-kept : at w (fromAt n k) ≡ at w₀ (fromAt n k)
+      from-kept = (let h = inside in let f = few in kept H (fromAt n k) (omega arith))
 
-      from-earlier : at w (5 * n + k) < k
+      from-earlier : at w (fromAt n k) < k
       from-earlier = (let e = from-kept in let h = a .earlier k later inside in omega arith)
 
       -- what it hands over fits
-      handing-fits : at w (6 * n + at w (5 * n + k)) + at w (6 * n + k) ≤ t
+      handing-fits : at w (sizeAt n (at w (fromAt n k))) + at w (sizeAt n k) ≤ t
       handing-fits =
-          let s = sum-term k (at w (5 * n + k)) (λ i. at w (6 * n + i)) from-earlier in
+          let s = sum-term k (at w (fromAt n k)) (λ i. at w (sizeAt n i)) from-earlier in
           let e = H .whole in
           omega arith
 
       -- what the store changes
-      here : at (set w (6 * n + at w (5 * n + k)) (at w (6 * n + at w (5 * n + k)) + at w (6 * n + k))) (6 * n + at w (5 * n + k)) ≡ at w (6 * n + at w (5 * n + k)) + at w (6 * n + k)
-      here = at-set-same w (6 * n + at w (5 * n + k)) _
+      here : at (set w (sizeAt n (at w (fromAt n k))) (at w (sizeAt n (at w (fromAt n k))) + at w (sizeAt n k))) (sizeAt n (at w (fromAt n k))) ≡ at w (sizeAt n (at w (fromAt n k))) + at w (sizeAt n k)
+      here = at-set-same w (sizeAt n (at w (fromAt n k))) _
           (let f = from-earlier in let h = inside in let m = few in let l = H .only .same-length in let r = a .room in omega arith)
 
-      there : (i : ℕ) → i ≢ at w (5 * n + k)
-          → at (set w (6 * n + at w (5 * n + k)) (at w (6 * n + at w (5 * n + k)) + at w (6 * n + k))) (6 * n + i) ≡ at w (6 * n + i)
-      there i ne = at-set-other w (6 * n + at w (5 * n + k)) _ (6 * n + i) (λ e. ne (omega arith))
+      there : (i : ℕ) → i ≢ at w (fromAt n k)
+          → at (set w (sizeAt n (at w (fromAt n k))) (at w (sizeAt n (at w (fromAt n k))) + at w (sizeAt n k))) (sizeAt n i) ≡ at w (sizeAt n i)
+      there i ne = at-set-other w (sizeAt n (at w (fromAt n k))) _ (sizeAt n i) (λ e. ne (omega arith))
 
       -- one position more
-      handing-more : Handing n t w₀ (set w (6 * n + at w (5 * n + k)) (at w (6 * n + at w (5 * n + k)) + at w (6 * n + k))) k
+      handing-more : Handing n t w₀ (set w (sizeAt n (at w (fromAt n k))) (at w (sizeAt n (at w (fromAt n k))) + at w (sizeAt n k))) k
       handing-more =
-          let w′ : List ℕ = set w (6 * n + at w (5 * n + k)) (at w (6 * n + at w (5 * n + k)) + at w (6 * n + k)) in
-          let f : ℕ = at w (5 * n + k) in
+          let w′ : List ℕ = set w (sizeAt n (at w (fromAt n k))) (at w (sizeAt n (at w (fromAt n k))) + at w (sizeAt n k)) in
+          let f : ℕ = at w (fromAt n k) in
           let fk : f < k = from-earlier in
           let hk = inside in
           let hf = few in
           record {
             within = omega arith;
-            whole = sum-change k f (at w (6 * n + k)) (λ i. at w (6 * n + i)) (λ i. at w′ (6 * n + i)) fk here (λ i hi ne. there i ne) ∙ H .whole;
+            whole = sum-change k f (at w (sizeAt n k)) (λ i. at w (sizeAt n i)) (λ i. at w′ (sizeAt n i)) fk here (λ i hi ne. there i ne) ∙ H .whole;
             parts = λ on h j hj.
-                sum-change k f (weighed (on j) (λ i. at w (6 * n + i)) k) (weighed (on j) (λ i. at w (6 * n + i))) (weighed (on j) (λ i. at w′ (6 * n + i))) fk
-                (weighed-moved (on j) (λ i. at w (6 * n + i)) (λ i. at w′ (6 * n + i)) k f
+                sum-change k f (weighed (on j) (λ i. at w (sizeAt n i)) k) (weighed (on j) (λ i. at w (sizeAt n i))) (weighed (on j) (λ i. at w′ (sizeAt n i))) fk
+                (weighed-moved (on j) (λ i. at w (sizeAt n i)) (λ i. at w′ (sizeAt n i)) k f
                 (h .up j k (omega arith) later hk (omega arith) ∙ ap (on j) (sym from-kept)) here)
-                (λ i hi ne. weighed-same (on j) (λ i. at w (6 * n + i)) (λ i. at w′ (6 * n + i)) i (there i ne))
+                (λ i hi ne. weighed-same (on j) (λ i. at w (sizeAt n i)) (λ i. at w′ (sizeAt n i)) i (there i ne))
                 ∙ H .parts on h j (omega arith);
             light = λ on h l x y. equal-or-not l k
                 (λ e. (let s = size-at on h in let z = ap (λ (i : ℕ). howMany t (on i)) e in omega arith))
                 (λ ne. H .light on h l (omega arith) y);
-            only = only-trans (H .only) (only-set w (6 * n + f) _ (omega arith) (omega arith));
+            only = only-trans (H .only) (only-set w (sizeAt n f) _ (omega arith) (omega arith));
           }
 
   -- nothing is left: the first position was heavy
@@ -167,21 +169,27 @@ module _ (n t : ℕ) (w₀ : List ℕ) (a : PickAsks n t w₀) (left : ℕ) (w :
   last : Handing n t w₀ w (suc (left - 1))
   last = subst (Handing n t w₀ w) (let e : left ≡ suc (left - 1) = omega arith in e) H
 
+  -- the next position is one of n
   pub down-inside : left - 1 < n
   down-inside = (let h = H .within in let f = a .few in omega arith)
 
-  pub down-small : at w (6 * n + (left - 1)) ≤ t
+  -- its size is at most all
+  pub down-small : at w (sizeAt n (left - 1)) ≤ t
   down-small = handing-small n t w₀ a (left - 1) w last
 
-  pub down-found : t < 2 * at w (6 * n + (left - 1)) → Picked n t w₀ w (at w (4 * n + (left - 1)))
+  -- it is heavy
+  pub down-found : t < 2 * at w (sizeAt n (left - 1)) → Picked n t w₀ w (at w (queueAt n (left - 1)))
   down-found = handing-found n t w₀ a (left - 1) w last
 
-  pub down-from : 2 * at w (6 * n + (left - 1)) ≤ t → at w (5 * n + (left - 1)) < n
+  -- it is not heavy: it was met from one of n
+  pub down-from : 2 * at w (sizeAt n (left - 1)) ≤ t → at w (fromAt n (left - 1)) < n
   down-from less = (let h = from-earlier n t w₀ a (left - 1) w last less in let i = down-inside in omega arith)
 
-  pub down-fits : 2 * at w (6 * n + (left - 1)) ≤ t → at w (6 * n + at w (5 * n + (left - 1))) + at w (6 * n + (left - 1)) ≤ t
+  -- the two sizes together are at most all
+  pub down-fits : 2 * at w (sizeAt n (left - 1)) ≤ t → at w (sizeAt n (at w (fromAt n (left - 1)))) + at w (sizeAt n (left - 1)) ≤ t
   down-fits = handing-fits n t w₀ a (left - 1) w last
 
-  pub down-more : 2 * at w (6 * n + (left - 1)) ≤ t
-      → Handing n t w₀ (set w (6 * n + at w (5 * n + (left - 1))) (at w (6 * n + at w (5 * n + (left - 1))) + at w (6 * n + (left - 1)))) (left - 1)
+  -- its size is handed back
+  pub down-more : 2 * at w (sizeAt n (left - 1)) ≤ t
+      → Handing n t w₀ (set w (sizeAt n (at w (fromAt n (left - 1)))) (at w (sizeAt n (at w (fromAt n (left - 1)))) + at w (sizeAt n (left - 1)))) (left - 1)
   down-more = handing-more n t w₀ a (left - 1) w last

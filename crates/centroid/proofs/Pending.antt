@@ -66,6 +66,7 @@ module _ {n : ℕ} {A : ℕ → List ℕ} {par dep : ℕ → ℕ} (Sp : Spans n 
       next s (subst (λ (u : ℕ). u < n) (sym same-up) b) (subst (λ (u : ℕ). In s (A u)) (sym same-up) i)
       (same-lv ∙ z ∙ ap (λ (l : ℕ). l + 1) (sym (ap lv′ same-up ∙ above (up c) b (omega arith))))
 
+  -- so the row holds of other tables that agree in these
   pub centroid-at-same : CentroidAt n A (ptail par dep) up lv c → CentroidAt n A (ptail par dep) up′ lv′ c
   centroid-at-same f =
       record {

@@ -22,11 +22,17 @@ refuses b r a e = ap (λ (c : Bool). unless c r a) (sym e)
 goes-on : (b : Bool) (r : Answer) {a x : Answer} → b ≡ true → x ≡ a → x ≡ unless b r a
 goes-on b r {a} e q = q ∙ ap (λ (c : Bool). unless c r a) (sym e)
 
+-- the limit as the code has it
+abbrev pub most : ℕ
+most = 32_768
+
 module _ (table other : List ℕ) (v : ℕ) where
+  -- the lengths differ
   pub read-unequal : length table ≢ length other → Refused badSize ≡ readOf table other v
   read-unequal ne = refuses (eqb (length table) (length other)) (Refused badSize) _ (ne-eqb (length table) (length other) ne)
 
   module _ (same : length table ≡ length other) where
+    -- the tables are empty
     pub read-empty : length table < 1 → Refused badSize ≡ readOf table other v
     read-empty h =
         goes-on (eqb (length table) (length other)) (Refused badSize) (eq-eqb (length table) (length other) same)
@@ -38,19 +44,22 @@ module _ (table other : List ℕ) (v : ℕ) where
           goes-on (eqb (length table) (length other)) (Refused badSize) (eq-eqb (length table) (length other) same)
           (goes-on (leb 1 (length table)) (Refused badSize) (le-leb 1 (length table) some) q)
 
-      pub read-long : 32_768 < length table → Refused badSize ≡ readOf table other v
+      -- they are too long
+      pub read-long : most < length table → Refused badSize ≡ readOf table other v
       unfolding maxVertices
       read-long h = two (refuses (leb (length table) maxVertices) (Refused badSize) _ (lt-leb (length table) maxVertices h))
 
-      module _ (few : length table ≤ 32_768) where
+      module _ (few : length table ≤ most) where
         three : {a x : Answer} → x ≡ a
             → x ≡ unless (eqb (length table) (length other)) (Refused badSize)
             (unless (leb 1 (length table)) (Refused badSize) (unless (leb (length table) maxVertices) (Refused badSize) a))
         unfolding maxVertices
         three q = two (goes-on (leb (length table) maxVertices) (Refused badSize) (le-leb (length table) maxVertices few) q)
 
+        -- v is no vertex
         pub read-vertex : length table ≤ v → Refused badVertex ≡ readOf table other v
         read-vertex h = three (refuses (leb (suc v) (length table)) (Refused badVertex) _ (lt-leb (suc v) (length table) (omega arith)))
 
+        -- the entry
         pub read-entry : v < length table → At (at table v) ≡ readOf table other v
         read-entry h = three (goes-on (leb (suc v) (length table)) (Refused badVertex) (le-leb (suc v) (length table) h) refl)

@@ -85,6 +85,7 @@ module _ {n : ℕ} {A : ℕ → List ℕ} {par dep : ℕ → ℕ} (Sp : Spans n 
         (joined-trans (Sp .rooted) (λ y. leb n (lv y)) (E .below) hc hs (joined-part (Sp .rooted) (λ y. leb n (lv y)) c (E .below) hx e on)
         (joined-turn (Sp .rooted) (λ y. leb n (lv y)) hs hc (F .inside)))
 
+    -- so it stays joined
     pub stays-joined : (x : ℕ) → x < n → joinedBy (ptail par dep) (λ y. leb n (lv y)) (S j) x ≡ true → joinedBy (ptail par dep) (λ y. leb n (lv′ y)) (S j) x ≡ true
     stays-joined x hx e =
         on-joined (Sp .rooted) (λ y. leb n (lv′ y)) (S j) x
@@ -130,6 +131,7 @@ module _ {n : ℕ} {A : ℕ → List ℕ} {par dep : ℕ → ℕ} (Sp : Spans n 
     start-joined : joinedBy (ptail par dep) (λ z. leb n (lv z)) (S h) y ≡ true
     start-joined = joined-trans (Sp .rooted) (λ z. leb n (lv z)) hs hc hy (F .inside) near-joined
 
+    -- so it can wait, one level below the centroid
     pub new-entry : Entry n A (ptail par dep) lv′ y c (L h + 1)
     new-entry =
         record {

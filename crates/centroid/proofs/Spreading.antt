@@ -96,9 +96,11 @@ module _ {n : ℕ} {A : ℕ → List ℕ} {way : ℕ → ℕ → List ℕ} {g : 
             (λ e. subst (λ (y : ℕ). g (at (A (q i)) y) ≡ true → (l : ℕ) × (l < t) × (q l ≡ at (A (q i)) y)) (sym e) found);
       }
 
+  -- an entry that is removed
   pub spread-gone : g (at (A (q i)) k) ≡ false → Spread n A way g s q p i (k + 1) t
   spread-gone e = spread-past (λ f. absurd (passed-not-failed f e))
 
+  -- an entry from which the vertex itself was met
   pub spread-back : i < t → at (A (q i)) k ≡ q (p i) → Spread n A way g s q p i (k + 1) t
   spread-back hi e = spread-past (λ f. (p i, back-inside hi, sym e))
 

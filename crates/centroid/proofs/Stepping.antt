@@ -122,6 +122,7 @@ module _ {n : ℕ} {A : ℕ → List ℕ} {par dep : ℕ → ℕ} (Sp : Spans n 
       (λ lj tj. (let x = EL .old j tj in let s = G .small j (omega arith) tj in omega arith))
       (λ i hi q. (let x = level-new i hi q in let s = G .small h (omega arith) more in omega arith))
 
+  -- the state after one more removal
   pub parting-more : Parting n A (ptail par dep) S′ P′ L′ lv′ up′ (h + 1) (t + length K)
   parting-more =
       record {

@@ -16,16 +16,12 @@ same-test true false f g = absurd (true≢false (sym (f refl)))
 same-test false true f g = absurd (true≢false (sym (g refl)))
 same-test false false f g = refl
 
--- a test passes or not
-pub passes-or-not : {C : Type 0} (b : Bool) → (b ≡ true → C) → (b ≡ false → C) → C
-passes-or-not true f g = f refl
-passes-or-not false f g = g refl
-
 -- what is not passed is failed
 pub not-passed : (b : Bool) → (b ≡ true → ⊥) → b ≡ false
 not-passed true f = absurd (f refl)
 not-passed false f = refl
 
+-- no test is passed and failed
 pub passed-not-failed : {b : Bool} → b ≡ true → b ≡ false → ⊥
 passed-not-failed p q = true≢false (sym p ∙ q)
 
@@ -39,6 +35,7 @@ every-in t y (x ∷ l) e h = head (t x) refl e h (every-in t y l)
     head true tx e (inr h) rest = rest e h
     head false tx e h rest = absurd (true≢false (sym e))
 
+-- what each entry passes, every entry passes
 pub in-every : (t : ℕ → Bool) (l : List ℕ) → ((y : ℕ) → In y l → t y ≡ true) → every t l ≡ true
 in-every t [] f = refl
 in-every t (x ∷ l) f = rw (f x (inl refl), every) (in-every t l (λ y h. f y (inr h)))
@@ -47,17 +44,15 @@ in-every t (x ∷ l) f = rw (f x (inl refl), every) (in-every t l (λ y h. f y (
 pub every-next : (t : ℕ → Bool) (x : ℕ) (l : List ℕ) → t x ≡ true → every t (x ∷ l) ≡ every t l
 every-next t x l e = rw (e, every) refl
 
+-- tests that agree on the entries
 pub every-same : (s t : ℕ → Bool) (l : List ℕ) → ((y : ℕ) → In y l → s y ≡ t y) → every s l ≡ every t l
 every-same s t l f =
     same-test (every s l) (every t l) (λ e. in-every t l (λ y h. sym (f y h) ∙ every-in s y l e h)) (λ e. in-every s l (λ y h. f y h ∙ every-in t y l e h))
-
--- an entry that fails
-pub every-fails : (t : ℕ → Bool) (y : ℕ) (l : List ℕ) → In y l → t y ≡ false → every t l ≡ false
-every-fails t y l h e = not-passed (every t l) (λ p. true≢false (sym (every-in t y l p h) ∙ e))
 
 -- the test of other numbers than v
 pub other-true : (v y : ℕ) → y ≢ v → not (eqb y v) ≡ true
 other-true v y ne = rw (ne-eqb y v ne) refl
 
+-- and back
 pub other-ne : (v y : ℕ) → not (eqb y v) ≡ true → y ≢ v
 other-ne v y e = eqb-false y v (not-true (eqb y v) e)

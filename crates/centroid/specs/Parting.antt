@@ -1,6 +1,6 @@
 -- A decomposition under way: the starts that wait, first in, first out, and the vertices that are removed. lv gives a removed vertex its level, which
 -- is below n, and a vertex that is left n or more.
-use Prim.Native.Nat.{ℕ, _+_, _*_, _≤_, _<_, _^_}
+use Prim.Native.Nat.{ℕ, _+_, _≤_, _<_, _^_}
 use mathlib.Core.Path.{_≡_}
 use mathlib.Core.Logic.{_≢_}
 use mathlib.Core.Bool.{true, false}
@@ -17,6 +17,7 @@ use Rattle.graph.specs.Work.{Only}
 use Rattle.numbering.specs.RuleOne.{keep}
 use Rattle.centroid.specs.Components.{inComponent}
 use Rattle.centroid.specs.Decomposition.{CentroidAt, DecompositionOf}
+use Rattle.centroid.specs.Regions.{startAt, parentAt, levelAt, removedFrom, regionsEnd}
 use Rattle.centroid.specs.Search.{LentTree, live}
 
 -- a start s below the centroid p, on level l: 0 below none; or a neighbour of p, one level below it
@@ -52,7 +53,7 @@ pub record PartingIn (os ts : List ℕ) (n : ℕ) (up level w : List ℕ) (h t :
   pub levels : (c : ℕ) → c < n → lv c < n → at level c ≡ lv c
   pub marks : (y : ℕ) → y < n → live w n y ≡ leb n (lv y)
   pub parting : (par dep : ℕ → ℕ) → Spans n (Stands (listOf os ts)) 0 par dep
-      → Parting n (listOf os ts) (ptail par dep) (λ j. at w (0 * n + j)) (λ j. at w (1 * n + j)) (λ j. at w (2 * n + j)) lv (at up) h t
+      → Parting n (listOf os ts) (ptail par dep) (λ j. at w (startAt n j)) (λ j. at w (parentAt n j)) (λ j. at w (levelAt n j)) lv (at up) h t
 
 -- the neighbours of c that are not removed
 abbrev pub leftOf : List ℕ → List ℕ → ℕ → ℕ → List ℕ → List ℕ
@@ -64,11 +65,11 @@ pub record StartAsks (n x c t : ℕ) (w : List ℕ) : Type 0 where
   pub vertex : x < n
   pub centroid : c < n
   pub fresh : live w n x ≡ true → t < n
-  pub room : 7 * n ≤ length w
+  pub room : regionsEnd n ≤ length w
 
 -- work with the start x below c on level l at position t
 abbrev pub waiting : ℕ → ℕ → ℕ → ℕ → ℕ → List ℕ → List ℕ
-waiting n x c l t w = set (set (set w (0 * n + t) x) (1 * n + t) c) (2 * n + t) l
+waiting n x c l t w = set (set (set w (startAt n t) x) (parentAt n t) c) (levelAt n t) l
 
 pub data Started (n x c l t : ℕ) (w w′ : List ℕ) (r : ℕ) : Type 0 where
   gone : live w n x ≡ false → w′ ≡ w → r ≡ t → Started n x c l t w w′ r
@@ -79,37 +80,37 @@ pub record AddAsks (os ts : List ℕ) (n c t : ℕ) (w : List ℕ) : Type 0 wher
   pub tree : LentTree os ts n
   pub vertex : c < n
   pub fits : t + length (leftOf os ts n c w) ≤ n
-  pub room : 7 * n ≤ length w
+  pub room : regionsEnd n ≤ length w
 
 -- they are, below c and on level l
 pub record Added (os ts : List ℕ) (n c l t : ℕ) (w w′ : List ℕ) (r : ℕ) : Type 0 where
   pub count : r ≡ t + length (leftOf os ts n c w)
-  pub starts : (i : ℕ) → i < length (leftOf os ts n c w) → at w′ (0 * n + (t + i)) ≡ at (leftOf os ts n c w) i
-  pub parents : (i : ℕ) → i < length (leftOf os ts n c w) → at w′ (1 * n + (t + i)) ≡ c
-  pub levels : (i : ℕ) → i < length (leftOf os ts n c w) → at w′ (2 * n + (t + i)) ≡ l
-  pub old-starts : (j : ℕ) → j < t → at w′ (0 * n + j) ≡ at w (0 * n + j)
-  pub old-parents : (j : ℕ) → j < t → at w′ (1 * n + j) ≡ at w (1 * n + j)
-  pub old-levels : (j : ℕ) → j < t → at w′ (2 * n + j) ≡ at w (2 * n + j)
-  pub only : Only 0 (3 * n) w w′
+  pub starts : (i : ℕ) → i < length (leftOf os ts n c w) → at w′ (startAt n (t + i)) ≡ at (leftOf os ts n c w) i
+  pub parents : (i : ℕ) → i < length (leftOf os ts n c w) → at w′ (parentAt n (t + i)) ≡ c
+  pub levels : (i : ℕ) → i < length (leftOf os ts n c w) → at w′ (levelAt n (t + i)) ≡ l
+  pub old-starts : (j : ℕ) → j < t → at w′ (startAt n j) ≡ at w (startAt n j)
+  pub old-parents : (j : ℕ) → j < t → at w′ (parentAt n j) ≡ at w (parentAt n j)
+  pub old-levels : (j : ℕ) → j < t → at w′ (levelAt n j) ≡ at w (levelAt n j)
+  pub only : Only 0 (removedFrom n) w w′
 
 -- the first entry that waits is to be taken
 pub record RemoveAsks (os ts : List ℕ) (n h t : ℕ) (up level w : List ℕ) : Type 0 where
   pub tree : LentTree os ts n
-  pub room : 7 * n ≤ length w
+  pub room : regionsEnd n ≤ length w
   pub some : h < t
   pub state : PartingIn os ts n up level w h t
 
 pub record Removed (os ts : List ℕ) (n h : ℕ) (w : List ℕ) (up′ level′ w′ : List ℕ) (t′ : ℕ) : Type 0 where
   pub state : PartingIn os ts n up′ level′ w′ (h + 1) t′
-  pub only : Only 0 (7 * n) w w′
+  pub only : Only 0 (regionsEnd n) w w′
 
 -- a tree and tables of its length are to be decomposed
 pub record DecomposeAsks (os ts : List ℕ) (n : ℕ) (up level w : List ℕ) : Type 0 where
   pub tree : LentTree os ts n
   pub up-long : length up ≡ n
   pub level-long : length level ≡ n
-  pub room : 7 * n ≤ length w
+  pub room : regionsEnd n ≤ length w
 
 pub record Decomposed (os ts : List ℕ) (n : ℕ) (up′ level′ w w′ : List ℕ) : Type 0 where
   pub tables : DecompositionOf n (listOf os ts) up′ level′
-  pub only : Only 0 (7 * n) w w′
+  pub only : Only 0 (regionsEnd n) w w′

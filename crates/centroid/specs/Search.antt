@@ -14,6 +14,7 @@ use Rattle.graph.specs.Lent.{vertices, listOf, Offsets, Targets}
 use Rattle.graph.specs.Marks.{markOf}
 use Rattle.graph.specs.Work.{Only}
 use Rattle.centroid.specs.Components.{every, CentroidFrom}
+use Rattle.centroid.specs.Regions.{removedFrom, queueFrom, queueAt, fromAt, sizeAt, regionsEnd}
 
 -- a lent graph that is a tree, seen from 0
 pub record LentTree (os ts : List ℕ) (n : ℕ) : Type 0 where
@@ -29,7 +30,7 @@ pub record LentTree (os ts : List ℕ) (n : ℕ) : Type 0 where
 
 -- whether y is not removed: its mark, n entries of marks from 3n on, is not set
 abbrev pub live : List ℕ → ℕ → ℕ → Bool
-live w n y = elim (ltb y n) [ true ↦ not (eqb (markOf w (3 * n) y) 1) | false ↦ true ]
+live w n y = elim (ltb y n) [ true ↦ not (eqb (markOf w (removedFrom n) y) 1) | false ↦ true ]
 
 -- every vertex on the path from s to x passes the test
 abbrev pub joinedBy : (way : ℕ → ℕ → List ℕ) → (ℕ → Bool) → ℕ → ℕ → Bool
@@ -56,9 +57,9 @@ pub record Spread (n : ℕ) (A : ℕ → List ℕ) (way : ℕ → ℕ → List �
 pub record SpreadIn (os ts : List ℕ) (n s : ℕ) (w : List ℕ) (i k t : ℕ) : Type 0 where
   pub q : ℕ → ℕ
   pub p : ℕ → ℕ
-  pub queue : (j : ℕ) → j < t → at w (4 * n + j) ≡ q j
-  pub from : (j : ℕ) → j < t → at w (5 * n + j) ≡ p j
-  pub ones : (j : ℕ) → j < t → at w (6 * n + j) ≡ 1
+  pub queue : (j : ℕ) → j < t → at w (queueAt n j) ≡ q j
+  pub from : (j : ℕ) → j < t → at w (fromAt n j) ≡ p j
+  pub ones : (j : ℕ) → j < t → at w (sizeAt n j) ≡ 1
   pub spread : (par dep : ℕ → ℕ) → Spans n (Stands (listOf os ts)) 0 par dep → Spread n (listOf os ts) (ptail par dep) (live w n) s q p i k t
 
 -- x is met from position i, whose own vertex was met from back: where it is entered there is room for it
@@ -67,11 +68,11 @@ pub record EnterAsks (n x back i t : ℕ) (w : List ℕ) : Type 0 where
   pub vertex : x < n
   pub position : i < n
   pub fresh : live w n x ≡ true → x ≢ back → t < n
-  pub room : 7 * n ≤ length w
+  pub room : regionsEnd n ≤ length w
 
 -- work with x at position t, met from i, with size 1
 abbrev pub entered : ℕ → ℕ → ℕ → ℕ → List ℕ → List ℕ
-entered n x i t w = set (set (set w (4 * n + t) x) (5 * n + t) i) (6 * n + t) 1
+entered n x i t w = set (set (set w (queueAt n t) x) (fromAt n t) i) (sizeAt n t) 1
 
 -- x is removed, or is where it was met from, and nothing changed; or it stands at position t
 pub data Entered (n x back i t : ℕ) (w w′ : List ℕ) (r : ℕ) : Type 0 where
@@ -82,36 +83,36 @@ pub data Entered (n x back i t : ℕ) (w w′ : List ℕ) (r : ℕ) : Type 0 whe
 -- the list of the vertex at position i is to be looked at
 pub record ListAsks (os ts : List ℕ) (n i t : ℕ) (w : List ℕ) : Type 0 where
   pub tree : LentTree os ts n
-  pub room : 7 * n ≤ length w
+  pub room : regionsEnd n ≤ length w
   pub inside : i < t
-  pub spread : SpreadIn os ts n (at w (4 * n)) w i 0 t
+  pub spread : SpreadIn os ts n (at w (queueFrom n)) w i 0 t
 
 -- it was looked at, and t′ vertices are met
 pub record ListAnswers (os ts : List ℕ) (n i : ℕ) (w w′ : List ℕ) (t′ : ℕ) : Type 0 where
-  pub spread : SpreadIn os ts n (at w (4 * n)) w′ i (length (listOf os ts (at w (4 * n + i)))) t′
+  pub spread : SpreadIn os ts n (at w (queueFrom n)) w′ i (length (listOf os ts (at w (queueAt n i)))) t′
   pub inside : i < t′
-  pub kept : at w′ (4 * n + i) ≡ at w (4 * n + i)
-  pub only : Only (4 * n) (7 * n) w w′
+  pub kept : at w′ (queueAt n i) ≡ at w (queueAt n i)
+  pub only : Only (queueFrom n) (regionsEnd n) w w′
 
 -- the component of s, which is not removed, is to be visited
 pub record WalkAsks (os ts : List ℕ) (n s : ℕ) (w : List ℕ) : Type 0 where
   pub tree : LentTree os ts n
   pub start : s < n
   pub start-live : live w n s ≡ true
-  pub room : 7 * n ≤ length w
+  pub room : regionsEnd n ≤ length w
 
 pub record Walked (os ts : List ℕ) (n s : ℕ) (w w′ : List ℕ) (t : ℕ) : Type 0 where
   pub spread : SpreadIn os ts n s w′ t 0 t
-  pub only : Only (4 * n) (7 * n) w w′
+  pub only : Only (queueFrom n) (regionsEnd n) w w′
 
 -- t positions, each but the first met from an earlier one, with sizes of 1
 pub record PickAsks (n t : ℕ) (w : List ℕ) : Type 0 where
   pub small : n < 2 ^ 31
   pub some : 0 < t
   pub few : t ≤ n
-  pub room : 7 * n ≤ length w
-  pub earlier : (j : ℕ) → 0 < j → j < t → at w (5 * n + j) < j
-  pub ones : (j : ℕ) → j < t → at w (6 * n + j) ≡ 1
+  pub room : regionsEnd n ≤ length w
+  pub earlier : (j : ℕ) → 0 < j → j < t → at w (fromAt n j) < j
+  pub ones : (j : ℕ) → j < t → at w (sizeAt n j) ≡ 1
 
 -- `on j l` tells whether the position l is j or hangs below it
 pub record Hangs (t : ℕ) (p : ℕ → ℕ) (on : ℕ → ℕ → Bool) : Type 0 where
@@ -127,12 +128,12 @@ pub record Heavy (t : ℕ) (on : ℕ → ℕ → Bool) (j : ℕ) : Type 0 where
 pub record Picked (n t : ℕ) (w w′ : List ℕ) (r : ℕ) : Type 0 where
   pub place : ℕ
   pub inside : place < t
-  pub answer : r ≡ at w (4 * n + place)
-  pub heavy : (on : ℕ → ℕ → Bool) → Hangs t (λ j. at w (5 * n + j)) on → Heavy t on place
-  pub only : Only (4 * n) (7 * n) w w′
+  pub answer : r ≡ at w (queueAt n place)
+  pub heavy : (on : ℕ → ℕ → Bool) → Hangs t (λ j. at w (fromAt n j)) on → Heavy t on place
+  pub only : Only (queueFrom n) (regionsEnd n) w w′
 
 -- c is the centroid of the component of s
 pub record Found (os ts : List ℕ) (n s : ℕ) (w w′ : List ℕ) (c : ℕ) : Type 0 where
   pub below : c < n
   pub centroid : (par dep : ℕ → ℕ) → Spans n (Stands (listOf os ts)) 0 par dep → CentroidFrom n (ptail par dep) (joinedBy (ptail par dep) (live w n) s) s c
-  pub only : Only (4 * n) (7 * n) w w′
+  pub only : Only (queueFrom n) (regionsEnd n) w w′

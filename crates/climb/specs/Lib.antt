@@ -3,3 +3,4 @@ pub mod Answers
 pub mod Sound
 pub mod Climbing
 pub mod Queries
+pub mod Inner

@@ -2,3 +2,4 @@ pub mod Ranges
 pub mod Readings
 pub mod Parts
 pub mod Calls
+pub mod Inner

@@ -1,0 +1,172 @@
+-- The state of a climb under way, as the loop of `climb_to_lca` keeps it: it begins, goes on by one move, and ends.
+use Prim.Native.Nat.{ℕ, suc, _+_, _-_, _*_, _≤_, _<_}
+use native.Mathlib.Omega.{arith}
+use native.Mathlib.Decide.{decLe}
+use mathlib.Core.Path.{_≡_, sym, ap, _∙_, subst}
+use mathlib.Core.List.{List, []}
+use lib.ListN.{length}
+use borrow.Author.Tests.{le-leb, lt-leb}
+use Rattle.sums.specs.Sum.{at}
+use Rattle.numbering.specs.Log.{log2}
+use Rattle.tables.specs.Tables.{Six, six}
+use Rattle.climb.specs.Sound.{standOn}
+use Rattle.climb.specs.Climbing.{leaveChain, climbing, climbTo, climbStart, uMoved, vMoved, ancestorOf}
+use Rattle.climb.specs.Inner.{Placed, Climbs, ClimbedTo, StoodOn, Left}
+use Rattle.climb.specs.declared.places.Place.{Place}
+use Rattle.climb.specs.declared.places.Climb.{Climb}
+use Rattle.climb.specs.declared.places.Stood.the-variants.{On, Unsound}
+use Rattle.climb.specs.declared.places.Climbed.the-variants.{Met, Lost}
+use Rattle.climb.proofs.Soundness.{stood-place, stood-placed}
+use Rattle.climb.proofs.Climbs.{Moved, moved, climb-met, climb-u, climb-u-lost, climb-v, climb-v-lost, climb-from}
+
+-- the chains that both sides may still leave
+abbrev pub chainsLeft : ℕ → Climb → ℕ
+chainsLeft chains c = 2 * chains - (c .«u_count» + c .«v_count»)
+
+-- both ends stand on sound vertices and are no deeper than u and v, and the climb from here is the climb from u and v
+pub record Going (P D H I : List ℕ) (chains u v : ℕ) (c : Climb) : Type 0 where
+  pub limit : chains ≡ log2 (length P)
+  pub u-few : c .«u_count» ≤ chains
+  pub v-few : c .«v_count» ≤ chains
+  pub u-placed : Placed (length P) D (c .u)
+  pub v-placed : Placed (length P) D (c .v)
+  pub u-low : c .u .depth ≤ at D u
+  pub v-low : c .v .depth ≤ at D v
+  pub same : (o s : List ℕ) → climbing (suc (chainsLeft chains c)) (length P) (six P D H I o s) c ≡ climbTo (length P) (six P D H I o s) u v
+
+module _ (P D H I : List ℕ) (chains u v : ℕ) where
+  -- the tables with nothing in `order` and `size`
+  abbrev four : Six
+  four = six P D H I [] []
+
+  start : Climbs P D H I chains u v → {p r : Place} → StoodOn P D H I u (On p) → StoodOn P D H I v (On r) → Going P D H I chains u v (climbStart p r)
+  start pre {p} {r} a b =
+      let l = pre .limit in
+      let e : suc (2 * chains - (0 + 0)) ≡ 2 * log2 (length P) + 1 = omega arith in
+      let du : p .depth ≡ at D u = ap (λ (q : Place). q .depth) (stood-place (length P) four u (sym (a [] []))) in
+      let dv : r .depth ≡ at D v = ap (λ (q : Place). q .depth) (stood-place (length P) four v (sym (b [] []))) in
+      record {
+        limit = l;
+        u-few = omega arith;
+        v-few = omega arith;
+        u-placed = stood-placed (length P) four u (sym (a [] []));
+        v-placed = stood-placed (length P) four v (sym (b [] []));
+        u-low = omega arith;
+        v-low = omega arith;
+        same = λ o s.
+            ap (λ (k : ℕ). climbing k (length P) (six P D H I o s) (climbStart p r)) e
+            ∙ sym (climb-from (length P) (six P D H I o s) u v (sym (a o s)) (sym (b o s)));
+      }
+
+  pub going-start : Climbs P D H I chains u v → {p r : Place} {c : Climb}
+      → StoodOn P D H I u (On p) → StoodOn P D H I v (On r) → c ≡ climbStart p r → Going P D H I chains u v c
+  going-start pre a b e = subst (Going P D H I chains u v) (sym e) (start pre a b)
+
+  module _ (c : Climb) (g : Going P D H I chains u v c) where
+    pub going-met : c .u .head ≡ c .v .head → (o s : List ℕ) → Met c ≡ climbTo (length P) (six P D H I o s) u v
+    going-met e o s = sym (climb-met (chainsLeft chains c) (length P) (six P D H I o s) c e) ∙ g .same o s
+
+    module _ (apart : c .u .head ≡ c .v .head → ⊥) where
+      module _ (h : c .v .top ≤ c .u .top) where
+        pub going-u-lost : Left P D H I (c .u) (c .«u_count») Unsound → (o s : List ℕ) → Lost ≡ climbTo (length P) (six P D H I o s) u v
+        going-u-lost l o s =
+            sym (climb-u-lost (chainsLeft chains c) (length P) (six P D H I o s) c apart h (sym (l o s))) ∙ g .same o s
+
+        module _ (q : Place) (l : Left P D H I (c .u) (c .«u_count») (On q)) where
+          u-step : Moved (length P) D (c .u) (c .«u_count») q
+          u-step = moved (length P) four (c .u) (c .«u_count») (g .u-placed) (sym (l [] []))
+
+          pub u-fewer : c .«u_count» < chains
+          u-fewer = omega (arith, u-step .fewer, g .limit)
+
+          less-u : chainsLeft chains (uMoved c q) < chainsLeft chains c
+          less-u = omega (arith, u-fewer, g .v-few)
+
+          pub going-u-less : {d : Climb} → d ≡ uMoved c q → chainsLeft chains d < chainsLeft chains c
+          going-u-less e = subst (λ (d : Climb). chainsLeft chains d < chainsLeft chains c) (sym e) less-u
+
+          step-u : Going P D H I chains u v (uMoved c q)
+          step-u =
+              let f = u-fewer in
+              let w = u-step .lower in
+              let e : suc (chainsLeft chains (uMoved c q)) ≡ chainsLeft chains c = omega (arith, g .v-few) in
+              record {
+                limit = g .limit;
+                u-few = omega arith;
+                v-few = g .v-few;
+                u-placed = u-step .placed;
+                v-placed = g .v-placed;
+                u-low = omega (arith, g .u-low);
+                v-low = g .v-low;
+                same = λ o s.
+                    ap (λ (k : ℕ). climbing k (length P) (six P D H I o s) (uMoved c q)) e
+                    ∙ (sym (climb-u (chainsLeft chains c) (length P) (six P D H I o s) c apart h (sym (l o s))) ∙ g .same o s);
+              }
+
+          pub going-u : {d : Climb} → d ≡ uMoved c q → Going P D H I chains u v d
+          going-u e = subst (Going P D H I chains u v) (sym e) step-u
+
+      module _ (h : c .u .top < c .v .top) where
+        pub going-v-lost : Left P D H I (c .v) (c .«v_count») Unsound → (o s : List ℕ) → Lost ≡ climbTo (length P) (six P D H I o s) u v
+        going-v-lost l o s =
+            sym (climb-v-lost (chainsLeft chains c) (length P) (six P D H I o s) c apart h (sym (l o s))) ∙ g .same o s
+
+        module _ (q : Place) (l : Left P D H I (c .v) (c .«v_count») (On q)) where
+          v-step : Moved (length P) D (c .v) (c .«v_count») q
+          v-step = moved (length P) four (c .v) (c .«v_count») (g .v-placed) (sym (l [] []))
+
+          pub v-fewer : c .«v_count» < chains
+          v-fewer = omega (arith, v-step .fewer, g .limit)
+
+          less-v : chainsLeft chains (vMoved c q) < chainsLeft chains c
+          less-v = omega (arith, v-fewer, g .u-few)
+
+          pub going-v-less : {d : Climb} → d ≡ vMoved c q → chainsLeft chains d < chainsLeft chains c
+          going-v-less e = subst (λ (d : Climb). chainsLeft chains d < chainsLeft chains c) (sym e) less-v
+
+          step-v : Going P D H I chains u v (vMoved c q)
+          step-v =
+              let f = v-fewer in
+              let w = v-step .lower in
+              let e : suc (chainsLeft chains (vMoved c q)) ≡ chainsLeft chains c = omega (arith, g .u-few) in
+              record {
+                limit = g .limit;
+                u-few = g .u-few;
+                v-few = omega arith;
+                u-placed = g .u-placed;
+                v-placed = v-step .placed;
+                u-low = g .u-low;
+                v-low = omega (arith, g .v-low);
+                same = λ o s.
+                    ap (λ (k : ℕ). climbing k (length P) (six P D H I o s) (vMoved c q)) e
+                    ∙ (sym (climb-v (chainsLeft chains c) (length P) (six P D H I o s) c apart h (sym (l o s))) ∙ g .same o s);
+              }
+
+          pub going-v : {d : Climb} → d ≡ vMoved c q → Going P D H I chains u v d
+          going-v e = subst (Going P D H I chains u v) (sym e) step-v
+
+-- the ancestor is no deeper than either end
+ancestor-low : (c : Climb) → (ancestorOf c .depth ≤ c .u .depth) × (ancestorOf c .depth ≤ c .v .depth)
+ancestor-low c = elim (decLe (c .u .depth) (c .v .depth)) [
+  | yes h ↦ rw (le-leb (c .u .depth) (c .v .depth) h) (omega arith)
+  | no h ↦ rw (lt-leb (c .u .depth) (c .v .depth) (omega arith)) (omega arith)
+]
+
+-- how the climb ends
+module _ (P D H I : List ℕ) (u v : ℕ) where
+  pub climbed-lost : ((o s : List ℕ) → Lost ≡ climbTo (length P) (six P D H I o s) u v) → ClimbedTo P D H I u v Lost
+  climbed-lost l =
+      record {
+        climb = l;
+        u-low = λ c e. absurd (let z : _≡_ {A = ℕ} 0 1 = cc in omega arith);
+        v-low = λ c e. absurd (let z : _≡_ {A = ℕ} 0 1 = cc in omega arith);
+      }
+
+  pub climbed-met : {chains : ℕ} {c : Climb} → Going P D H I chains u v c → c .u .head ≡ c .v .head → ClimbedTo P D H I u v (Met c)
+  climbed-met {chains} {c} g e =
+      let a = ancestor-low c in
+      record {
+        climb = going-met P D H I chains u v c g e;
+        u-low = λ d f. let m : c ≡ d = cc in subst (λ (x : Climb). ancestorOf x .depth ≤ at D u) m (omega (arith, g .u-low));
+        v-low = λ d f. let m : c ≡ d = cc in subst (λ (x : Climb). ancestorOf x .depth ≤ at D v) m (omega (arith, g .v-low));
+      }

@@ -1,0 +1,9 @@
+pub mod Choices
+pub mod Soundness
+pub mod Climbs
+pub mod Going
+pub mod Rising
+pub mod Passed
+pub mod Reading
+pub mod Answering
+pub mod Counting

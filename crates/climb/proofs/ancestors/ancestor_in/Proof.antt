@@ -1,0 +1,39 @@
+-- `ancestors::ancestor_in` meets its contract: it stands on v and looks up from there.
+use borrow.Author.Needs.{needs}
+use Rattle.climb.proofs.ancestors.ancestor_in.Statement.{statement}
+use Rattle.climb.proofs.ancestors.ancestor_in.Tie as tie
+use Rattle.climb.proofs.ancestors.ancestor_in.Reads as reads
+use Rattle.climb.proofs.ancestors.ancestor_in.Lts as lts
+use Rattle.climb.proofs.ancestors.ancestor_from.Reads as ancestor-from-reads
+use Rattle.climb.proofs.sound.stand.Reads as stand-reads
+use mathlib.Core.Path.{sym, ap, _∙_}
+use Prim.Native.Nat.{ℕ}
+use mathlib.Core.List.{[]}
+use lib.ListN.{length}
+use Rattle.tables.specs.Tables.{six}
+use Rattle.climb.specs.Queries.{ancestorFrom}
+use Rattle.climb.proofs.Soundness.{stood-placed}
+use Rattle.climb.proofs.Rising.{rise-from, rise-off}
+
+stand-requires : tie.Need-stand-requires
+stand-requires c κs = record { even = c .before .before .before .before .before .pre .even; vertex = c .before .before .before .before .before .pre .vertex }
+
+enum-known-p : tie.Need-enum-known-p
+enum-known-p c = search needs
+
+enum-told : tie.Need-enum-told
+enum-told c = search needs
+
+returns : tie.Need-returns
+returns c = λ s. rise-off _ _ _ _ (sym (c .before .before .stand .ensures _ s) ∙ c .enum-told .given .1)
+
+ancestor-from-requires : tie.Need-ancestor-from-requires
+ancestor-from-requires c κs = record { even = c .before .before .before .before .before .before .before .before .before .pre .even; order = c .before .before .before .before .before .before .before .before .before .pre .order; place = stood-placed _ _ _ (sym (c .before .before .before .stand .ensures [] []) ∙ c .before .p .given .1) }
+
+returns-2 : tie.Need-returns-2
+returns-2 c = λ s. c .ancestor-from .ensures s ∙ rise-from _ _ _ _ (c .before .before .before .before .before .before .before .before .before .before .pre .limit) (sym (c .before .before .before .before .stand .ensures _ s) ∙ c .before .before .p .given .1)
+
+pub ancestor-in-spec : {M : Type 1} → statement M
+ancestor-in-spec =
+    tie.close
+    (tie.spec stand-requires enum-known-p enum-told returns ancestor-from-requires returns-2)

@@ -1,0 +1,14 @@
+use Rattle.climb.proofs.places.Climb.ancestor.Statement.{statement}
+use Rattle.climb.proofs.places.Climb.ancestor.Tie as tie
+use Rattle.climb.proofs.places.Climb.ancestor.Reads as reads
+use Rattle.climb.proofs.places.Climb.ancestor.Lts as lts
+use borrow.Author.Tests.{le-leb, lt-leb}
+
+returns : tie.Need-returns
+returns c = rw (le-leb _ _ (c .if1 .taken))
+
+returns-2 : tie.Need-returns-2
+returns-2 c = rw (lt-leb _ _ (c .if1 .left))
+
+pub ancestor-spec : {M : Type 1} → statement M
+ancestor-spec = tie.close (tie.spec returns returns-2)

@@ -1,0 +1,69 @@
+// The climb of two ends until their heads are the same.
+use crate::places::Climb;
+use crate::places::Climbed;
+use crate::places::Place;
+use crate::places::Stood;
+use crate::sound::stand;
+use graph::codes::NO_PARENT;
+ghost use Rattle.climb.specs.Inner.{Leaves, Left, Climbs, ClimbedTo};
+
+// Leaves the chain of p, the left-th that its side has left, for the head's parent: at most `chains` of them are left.
+pub fn leave_chain(
+    parent: &[u32],
+    depth: &[u32],
+    head: &[u32],
+    id: &[u32],
+    chains: usize,
+    p: Place,
+    left: usize,
+) -> Stood
+    requires { ⌜ Leaves (now parent) (now depth) (now head) (now id) chains p ⌝ }
+    ensures { λ r. ⌜ Left (now (parent .entry)) (now (depth .entry)) (now (head .entry)) (now (id .entry)) p left r ⌝ }
+{
+    let up = p.up;
+    if up == NO_PARENT as usize {
+        return Stood::Unsound;
+    }
+    if chains <= left {
+        return Stood::Unsound;
+    }
+    stand(parent, depth, head, id, up)
+}
+
+// Climbs from u and v, chain by chain, until both stand on one chain. `chains` is the floor of log2 n.
+pub fn climb_to_lca(
+    parent: &[u32],
+    depth: &[u32],
+    head: &[u32],
+    id: &[u32],
+    chains: usize,
+    u: usize,
+    v: usize,
+) -> Climbed
+    requires { ⌜ Climbs (now parent) (now depth) (now head) (now id) chains u v ⌝ }
+    ensures { λ r. ⌜ ClimbedTo (now (parent .entry)) (now (depth .entry)) (now (head .entry)) (now (id .entry)) u v r ⌝ }
+{
+    let Stood::On(p) = stand(parent, depth, head, id, u) else {
+        return Climbed::Lost;
+    };
+    let Stood::On(r) = stand(parent, depth, head, id, v) else {
+        return Climbed::Lost;
+    };
+    let mut climb = Climb::new(p, r);
+    while climb.u.head != climb.v.head {
+        if climb.v.top <= climb.u.top {
+            let Stood::On(p) = leave_chain(parent, depth, head, id, chains, climb.u, climb.u_count)
+            else {
+                return Climbed::Lost;
+            };
+            climb = climb.u_moved(p);
+        } else {
+            let Stood::On(p) = leave_chain(parent, depth, head, id, chains, climb.v, climb.v_count)
+            else {
+                return Climbed::Lost;
+            };
+            climb = climb.v_moved(p);
+        }
+    }
+    Climbed::Met(climb)
+}

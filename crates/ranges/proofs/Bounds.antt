@@ -1,0 +1,16 @@
+-- The floor of the logarithm of a number of vertices is small.
+use Prim.Native.Nat.{ℕ, zero, suc, _<_, _≤_, _^_}
+use native.Mathlib.Omega.{arith}
+use native.Mathlib.Nat.{two-pow-succ}
+use lib.Pow.{pow-pos}
+use Rattle.numbering.specs.Log.{log2}
+use Rattle.numbering.proofs.Logs.{log2-low}
+use Rattle.graph.specs.Limits.{maxVertices}
+use Rattle.graph.proofs.Limits.{vertices-small}
+
+below-power : (k : ℕ) → k < 2 ^ k
+below-power zero = pow-pos 0
+below-power (suc k) = let i = below-power k in let e = two-pow-succ k in omega arith
+
+pub log2-bounded : (n : ℕ) → 1 ≤ n → n ≤ maxVertices → log2 n < 2 ^ 31
+log2-bounded n p h = omega (arith, log2-low n p, below-power (log2 n), vertices-small)

@@ -1,0 +1,8 @@
+pub mod Bounds
+pub mod Slots
+pub mod Looks
+pub mod Hung
+pub mod Numbered
+pub mod Writing
+pub mod Listing
+pub mod Parted

@@ -1,0 +1,130 @@
+// The path from u to v as ranges, written into a lent list. Every refusal comes before the test of room, and a refused call writes nothing.
+use crate::chains::last_chain;
+use crate::chains::last_count;
+use crate::kinds::Kind;
+use crate::kinds::Listed;
+use crate::writes::write_path;
+use climb::answers::Refusal;
+use climb::asked::Verdict;
+use climb::asked::asked;
+use climb::climbing::climb_to_lca;
+use climb::log::floor_log2;
+use climb::places::Climbed;
+ghost use Rattle.tables.specs.Tables.{six};
+ghost use Rattle.ranges.specs.Calls.{rangesOf};
+ghost use Rattle.ranges.specs.Inner.{ListedAs};
+ghost use Rattle.ranges.specs.declared.kinds.Kind.the-variants.{Vertices, Edges, Both};
+
+// The ranges of one kind.
+fn path_ranges(
+    kind: Kind,
+    parent: &[u32],
+    depth: &[u32],
+    head: &[u32],
+    id: &[u32],
+    order: &[u32],
+    size: &[u32],
+    u: usize,
+    v: usize,
+    ranges: &mut [u32],
+) -> Listed
+    ensures { λ r. ⌜ ListedAs (rangesOf kind (six (now (parent .entry)) (now (depth .entry)) (now (head .entry)) (now (id .entry)) (now (order .entry)) (now (size .entry))) u v) (now (ranges .entry)) (now (ranges .exit)) r ⌝ }
+{
+    if let Verdict::Refused(refusal) = asked(parent, depth, head, id, order, size, &[u, v]) {
+        return Listed::Refused(refusal);
+    }
+    let chains = floor_log2(parent.len());
+    let Climbed::Met(climb) = climb_to_lca(parent, depth, head, id, chains, u, v) else {
+        return Listed::Refused(Refusal::BadTable);
+    };
+    let count = climb.u_count + climb.v_count + last_count(last_chain(kind, climb));
+    if ranges.len() < 3 * count {
+        return Listed::Refused(Refusal::NoRoom);
+    }
+    write_path(kind, parent, depth, head, id, chains, u, v, count, ranges);
+    Listed::Count(count)
+}
+
+// The numbers of the vertices of the path.
+pub fn vertex_path_ranges(
+    parent: &[u32],
+    depth: &[u32],
+    head: &[u32],
+    id: &[u32],
+    order: &[u32],
+    size: &[u32],
+    u: usize,
+    v: usize,
+    ranges: &mut [u32],
+) -> Listed
+    ensures { λ r. ⌜ ListedAs (rangesOf Vertices (six (now (parent .entry)) (now (depth .entry)) (now (head .entry)) (now (id .entry)) (now (order .entry)) (now (size .entry))) u v) (now (ranges .entry)) (now (ranges .exit)) r ⌝ }
+{
+    path_ranges(
+        Kind::Vertices,
+        parent,
+        depth,
+        head,
+        id,
+        order,
+        size,
+        u,
+        v,
+        ranges,
+    )
+}
+
+// The numbers of the edges of the path, each by its child.
+pub fn edge_path_ranges(
+    parent: &[u32],
+    depth: &[u32],
+    head: &[u32],
+    id: &[u32],
+    order: &[u32],
+    size: &[u32],
+    u: usize,
+    v: usize,
+    ranges: &mut [u32],
+) -> Listed
+    ensures { λ r. ⌜ ListedAs (rangesOf Edges (six (now (parent .entry)) (now (depth .entry)) (now (head .entry)) (now (id .entry)) (now (order .entry)) (now (size .entry))) u v) (now (ranges .entry)) (now (ranges .exit)) r ⌝ }
+{
+    path_ranges(
+        Kind::Edges,
+        parent,
+        depth,
+        head,
+        id,
+        order,
+        size,
+        u,
+        v,
+        ranges,
+    )
+}
+
+// Vertices and edges of the path in turn, in the doubled numbers.
+pub fn vertex_edge_path_ranges(
+    parent: &[u32],
+    depth: &[u32],
+    head: &[u32],
+    id: &[u32],
+    order: &[u32],
+    size: &[u32],
+    u: usize,
+    v: usize,
+    ranges: &mut [u32],
+) -> Listed
+    ensures { λ r. ⌜ ListedAs (rangesOf Both (six (now (parent .entry)) (now (depth .entry)) (now (head .entry)) (now (id .entry)) (now (order .entry)) (now (size .entry))) u v) (now (ranges .entry)) (now (ranges .exit)) r ⌝ }
+{
+    path_ranges(
+        Kind::Both,
+        parent,
+        depth,
+        head,
+        id,
+        order,
+        size,
+        u,
+        v,
+        ranges,
+    )
+}

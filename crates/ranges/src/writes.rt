@@ -1,0 +1,93 @@
+// Writing ranges into a lent list, three numbers to a range: its start, its end, and 0 for Forward or 1 for Reversed.
+use crate::chains::Last;
+use crate::chains::chain_range;
+use crate::chains::last_chain;
+use crate::kinds::Direction;
+use crate::kinds::Kind;
+use crate::kinds::PathRange;
+use climb::climbing::leave_chain;
+use climb::places::Climb;
+use climb::places::Stood;
+use climb::sound::stand;
+ghost use mathlib.Core.Path.{_≡_};
+ghost use mathlib.Core.List.{[], _∷_};
+ghost use Rattle.ranges.specs.Calls.{directionCode};
+ghost use Rattle.ranges.specs.Inner.{lastList, written, Slot, LastSlot, Writes, Wrote};
+
+// The number of a direction.
+fn direction_code(direction: Direction) -> u32
+    ensures { λ r. ⌜ r ≡ directionCode direction ⌝ }
+{
+    match direction {
+        Direction::Forward => 0,
+        Direction::Reversed => 1,
+    }
+}
+
+// Writes a range into a slot.
+fn write_range(ranges: &mut [u32], slot: usize, range: PathRange)
+    requires { ⌜ Slot (now ranges) slot range ⌝ }
+    ensures { λ r. ⌜ now (ranges .exit) ≡ written (now (ranges .entry)) slot (range ∷ []) ⌝ }
+{
+    let at = 3 * slot;
+    let direction = range.direction;
+    ranges[at] = range.start as u32;
+    ranges[at + 1] = range.end as u32;
+    ranges[at + 2] = direction_code(direction);
+}
+
+// Writes the range of the last chain, if there is one, into a slot.
+fn write_last(ranges: &mut [u32], slot: usize, last: Last)
+    requires { ⌜ LastSlot (now ranges) slot last ⌝ }
+    ensures { λ r. ⌜ now (ranges .exit) ≡ written (now (ranges .entry)) slot (lastList last) ⌝ }
+{
+    if let Last::One(range) = last {
+        write_range(ranges, slot, range);
+    }
+}
+
+// Climbs from u and v once more and writes the `count` ranges of their path: the u side from the front, the v side from the back. The first
+// climb has met every refusal, so neither side is lost here.
+pub(crate) fn write_path(
+    kind: Kind,
+    parent: &[u32],
+    depth: &[u32],
+    head: &[u32],
+    id: &[u32],
+    chains: usize,
+    u: usize,
+    v: usize,
+    count: usize,
+    ranges: &mut [u32],
+)
+    requires { ⌜ Writes kind (now parent) (now depth) (now head) (now id) chains u v count (now ranges) ⌝ }
+    ensures { λ r. ⌜ Wrote kind (now (parent .entry)) (now (depth .entry)) (now (head .entry)) (now (id .entry)) u v (now (ranges .entry)) (now (ranges .exit)) ⌝ }
+{
+    let Stood::On(p) = stand(parent, depth, head, id, u) else {
+        return;
+    };
+    let Stood::On(r) = stand(parent, depth, head, id, v) else {
+        return;
+    };
+    let mut climb = Climb::new(p, r);
+    while climb.u.head != climb.v.head {
+        if climb.v.top <= climb.u.top {
+            let Stood::On(p) = leave_chain(parent, depth, head, id, chains, climb.u, climb.u_count)
+            else {
+                return;
+            };
+            let range = chain_range(kind, climb.u.first, climb.u.id + 1, Direction::Reversed);
+            write_range(ranges, climb.u_count, range);
+            climb = climb.u_moved(p);
+        } else {
+            let Stood::On(p) = leave_chain(parent, depth, head, id, chains, climb.v, climb.v_count)
+            else {
+                return;
+            };
+            let range = chain_range(kind, climb.v.first, climb.v.id + 1, Direction::Forward);
+            write_range(ranges, count - 1 - climb.v_count, range);
+            climb = climb.v_moved(p);
+        }
+    }
+    write_last(ranges, climb.u_count, last_chain(kind, climb));
+}
