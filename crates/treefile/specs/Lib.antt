@@ -1,2 +1,6 @@
 pub mod File
 pub mod Report
+pub mod Writing
+pub mod Flat
+pub mod Parsing
+pub mod Sections

@@ -1,0 +1,57 @@
+-- Laws of `parse`: a bad file changes no buffer, and the parts of a well-formed one fit and are copied.
+use Prim.Native.Nat.{ℕ, _+_, _*_, _≤_}
+use native.Mathlib.Omega.{arith}
+use mathlib.Core.Path.{_≡_, refl, sym, ap, _∙_}
+use mathlib.Core.Bool.{false, true≢false}
+use mathlib.Core.List.{List, _++_}
+use lib.ListN.{length, take, drop, length-drop}
+use Rattle.treefile.specs.declared.judge.Shape.{Shape}
+use Rattle.treefile.specs.File.{words, Parsed, badFile, file, parseFile}
+use Rattle.treefile.specs.Parsing.{shapeOf, front, Buffers, Parses}
+use Rattle.treefile.specs.Sections.{Copies}
+use Rattle.treefile.proofs.FileWords.{copy-front}
+use Rattle.treefile.proofs.Places.{Layout}
+
+not-good : (p : Parsed) → shapeOf p .good ≡ false → p ≡ badFile
+not-good badFile e = refl
+not-good (file f) e = absurd (true≢false e)
+
+pub parses-bad : (bytes os ts qs : List ℕ) {r : Shape} → r ≡ shapeOf (parseFile bytes) → r .good ≡ false → Parses bytes os ts qs os ts qs r
+parses-bad bytes os ts qs {r} e wrong =
+    let is = not-good (parseFile bytes) (ap (λ (x : Shape). x .good) (sym e) ∙ wrong) in
+    record { shape = e; offsets = rw is; targets = rw is; queries = rw is }
+
+module _ {ws os ts qs : List ℕ} {p : Parsed} {r : Shape} (l : Layout ws p r) (b : Buffers os ts qs) where
+  pub offsets-fit : Copies ws 1 (r .offsets) os
+  offsets-fit = record { there = omega (arith, l .whole); room = omega (arith, l .few-offsets, b .offsets) }
+
+  pub targets-fit : Copies ws (r .offsets + 2) (r .targets) ts
+  targets-fit = record { there = omega (arith, l .whole); room = omega (arith, l .few-targets, b .targets) }
+
+  pub queries-fit : Copies ws (r .offsets + r .targets + 5) (4 * r .queries) qs
+  queries-fit = record { there = omega (arith, l .whole); room = omega (arith, l .few-queries, b .queries) }
+
+-- numbers that were copied stand in front
+fronted : (lent : List ℕ) {out s : List ℕ} (ws : List ℕ) (p n : ℕ) → p + n ≤ length ws → s ≡ take n (drop p ws) → out ≡ take n (drop p ws) ++ drop n lent → out ≡ front s lent
+fronted lent ws p n h is copied =
+    let d = length-drop p ws in
+    copied ∙ copy-front (drop p ws) lent n (omega arith) ∙ ap (λ (x : List ℕ). front x lent) (sym is)
+
+pub parses-good : (bytes : List ℕ) {os ts qs os′ ts′ qs′ : List ℕ} {r : Shape} → r ≡ shapeOf (parseFile bytes) → Layout (words bytes) (parseFile bytes) r
+    → os′ ≡ take (r .offsets) (drop 1 (words bytes)) ++ drop (r .offsets) os
+    → ts′ ≡ take (r .targets) (drop (r .offsets + 2) (words bytes)) ++ drop (r .targets) ts
+    → qs′ ≡ take (4 * r .queries) (drop (r .offsets + r .targets + 5) (words bytes)) ++ drop (4 * r .queries) qs
+    → Parses bytes os ts qs os′ ts′ qs′ r
+parses-good bytes {os} {ts} {qs} {r = r} e l eo et eq =
+    let ws : List ℕ = words bytes in
+    record {
+      shape = e;
+      offsets = fronted os ws 1 (r .offsets) (omega (arith, l .whole)) (l .offsets-are) eo;
+      targets = fronted ts ws (r .offsets + 2) (r .targets) (omega (arith, l .whole)) (l .targets-are) et;
+      queries = fronted qs ws (r .offsets + r .targets + 5) (4 * r .queries) (omega (arith, l .whole)) (l .queries-are) eq;
+    }
+
+-- the answer and the buffers are determined
+pub parses-one : {bytes os ts qs os₁ ts₁ qs₁ os₂ ts₂ qs₂ : List ℕ} {r₁ r₂ : Shape} → Parses bytes os ts qs os₁ ts₁ qs₁ r₁ → Parses bytes os ts qs os₂ ts₂ qs₂ r₂
+    → (r₁ ≡ r₂) × (os₁ ≡ os₂) × (ts₁ ≡ ts₂) × (qs₁ ≡ qs₂)
+parses-one p q = (p .shape ∙ sym (q .shape), p .offsets ∙ sym (q .offsets), p .targets ∙ sym (q .targets), p .queries ∙ sym (q .queries))

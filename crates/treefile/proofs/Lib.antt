@@ -1,0 +1,11 @@
+pub mod Digits
+pub mod Writing
+pub mod Flat
+pub mod Report
+pub mod FileWords
+pub mod Sections
+pub mod Queries
+pub mod Roots
+pub mod Opening
+pub mod Places
+pub mod Buffers

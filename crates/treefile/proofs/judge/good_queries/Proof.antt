@@ -1,0 +1,67 @@
+use Rattle.treefile.proofs.judge.good_queries.Statement.{statement}
+use Rattle.treefile.proofs.judge.good_queries.Tie as tie
+use native.Mathlib.Omega.{arith}
+use mathlib.Core.Path.{sym, _∙_}
+use borrow.Author.Tests.{not-true, not-false}
+use lib.ListN.{length-drop, drop}
+use Rattle.treefile.specs.File.{words, maxQueries}
+use Rattle.treefile.proofs.FileWords.{words-length}
+use Rattle.treefile.proofs.Queries.{Judged, judged-start, judged-next, judged-bad, judged-all, all-length}
+
+abbrev Inv-loop : tie.InvT-loop
+Inv-loop bytes p count next₀ left₀ next left = Judged (words bytes) p count next left
+
+abbrev μ-loop : tie.MeasureT-loop
+μ-loop bytes p count next₀ left₀ next left = left
+
+sub-if1 : tie.Need-sub-if1 Inv-loop μ-loop
+sub-if1 c = omega (arith, c .before .pre .within, words-length (c .before .args .bytes .now))
+
+mul-if1 : tie.Need-mul-if1 Inv-loop μ-loop
+unfolding maxQueries
+mul-if1 c = omega (arith, c .before .pre .few)
+
+returns : tie.Need-returns Inv-loop μ-loop
+returns c = sym (all-length (c .before .before .args .count) (drop (c .before .before .args .p) (words (c .before .before .args .bytes .now))) (λ e. c .if1 .taken (omega (arith, words-length (c .before .before .args .bytes .now), length-drop (c .before .before .args .p) (words (c .before .before .args .bytes .now))))))
+
+loop-holds : tie.Need-loop-holds Inv-loop μ-loop
+loop-holds c = judged-start _ _ _ (omega (arith, c .if1 .left, c .before .before .pre .within, words-length (c .before .before .args .bytes .now)))
+
+good-query-requires : tie.Need-good-query-requires Inv-loop μ-loop
+good-query-requires c κs = omega (arith, c .before .loop .inv .exact)
+
+returns-2 : tie.Need-returns-2 Inv-loop μ-loop
+returns-2 c = sym (judged-bad (c .before .before .loop-test .taken) (sym (c .before .good-query .ensures) ∙ not-true _ (c .if2 .taken)) (c .before .before .before .loop .inv))
+
+add-next : tie.Need-add-next Inv-loop μ-loop
+add-next c = omega (arith, c .before .before .before .loop .inv .exact, words-length (c .before .before .before .before .before .before .args .bytes .now))
+
+sub-left : tie.Need-sub-left Inv-loop μ-loop
+sub-left c = omega arith
+
+loop-less : tie.Need-loop-less Inv-loop μ-loop
+loop-less c = omega arith
+
+loop-again : tie.Need-loop-again Inv-loop μ-loop
+loop-again c = judged-next (c .before .before .loop-test .taken) (sym (c .before .good-query .ensures) ∙ not-false _ (c .if2 .left)) (c .before .before .before .loop .inv)
+
+returns-3 : tie.Need-returns-3 Inv-loop μ-loop
+returns-3 c = sym (judged-all (c .loop-test .left) (c .before .loop .inv))
+
+pub good-queries-spec : {M : Type 1} → statement M
+good-queries-spec =
+    tie.close
+    (tie.spec
+    Inv-loop
+    μ-loop
+    sub-if1
+    mul-if1
+    returns
+    loop-holds
+    good-query-requires
+    returns-2
+    add-next
+    sub-left
+    loop-less
+    loop-again
+    returns-3)

@@ -1,0 +1,59 @@
+-- What a writer reads of a lent flat list, and the parts of the report that it writes at once.
+use Prim.Native.Nat.{ℕ, zero, suc, _+_, _*_, _≤_}
+use mathlib.Core.List.{List, [], _∷_, _++_}
+use lib.Dec.{eqb}
+use lib.ListN.{length}
+use Rattle.sums.specs.Sum.{at}
+use Rattle.climb.specs.Choice.{pick}
+use Rattle.ranges.specs.Calls.{Answered, refused, listed}
+use Rattle.ranges.specs.declared.kinds.Direction.{Direction}
+use Rattle.ranges.specs.declared.kinds.Direction.the-variants.{Forward, Reversed}
+use Rattle.ranges.specs.declared.kinds.PathRange.{PathRange}
+use Rattle.ranges.specs.declared.kinds.Listed.{Listed}
+use Rattle.ranges.specs.declared.kinds.Listed.the-variants.{Count, Refused}
+use Rattle.treefile.specs.Report.{decimal, space, newline, fields, treeWord, listText}
+use Rattle.treefile.specs.Writing.{Room}
+
+abbrev pub directionOf : ℕ → Direction
+directionOf d = pick (eqb d 0) Forward Reversed
+
+-- the range that stands at place i of a flat list, three numbers to a range
+unfoldable pub rangeAt : List ℕ → ℕ → PathRange
+rangeAt l i = record { start = at l (3 * i); end = at l (3 * i + 1); direction = directionOf (at l (3 * i + 2)) }
+
+-- the first k ranges of a flat list
+abbrev pub rangesIn : ℕ → List ℕ → List PathRange
+rangesIn zero l = []
+rangesIn (suc k) l = rangesIn k l ++ (rangeAt l k ∷ [])
+
+-- what an answer and the list that was left say together
+abbrev pub answeredIn : Listed → List ℕ → Answered
+answeredIn (Refused x) l = refused x
+answeredIn (Count k) l = listed (rangesIn k l)
+
+-- the text of an answer with the list that was left
+abbrev pub listedText : Listed → List ℕ → List ℕ
+listedText a l = listText (answeredIn a l)
+
+-- how many numbers of the list an answer speaks of
+abbrev pub spokenOf : Listed → ℕ
+spokenOf (Refused x) = 0
+spokenOf (Count k) = 3 * k
+
+-- how many numbers an answer takes in a flat list
+abbrev pub numbersOf : Answered → ℕ
+numbersOf (refused x) = 0
+numbersOf (listed l) = 3 * length l
+
+-- the list holds the ranges of the answer, and their text fits
+pub record ListRoom (a : Listed) (l : List ℕ) (at : ℕ) (out : List ℕ) : Type 0 where
+  pub whole : spokenOf a ≤ length l
+  pub room : Room (listedText a l) at out
+
+-- the line of a tree by its code, its number of vertices and its root
+abbrev pub treeText : ℕ → ℕ → ℕ → List ℕ
+treeText code n root = treeWord ++ (pick (eqb code 0) (fields (0 ∷ n ∷ root ∷ [])) (decimal code) ++ newline)
+
+-- what stands before a query's code
+abbrev pub queryHead : ℕ → ℕ → List ℕ
+queryHead place kind = decimal place ++ (space ++ (decimal kind ++ space))

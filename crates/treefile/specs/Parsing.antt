@@ -1,0 +1,47 @@
+-- What `parse` answers and leaves in the lent buffers.
+use Prim.Native.Nat.{ℕ, _*_, _≤_}
+use mathlib.Core.Path.{_≡_}
+use mathlib.Core.Bool.{true, false}
+use mathlib.Core.List.{List, [], _∷_, _++_}
+use lib.ListN.{length, drop}
+use Rattle.treefile.specs.declared.judge.Shape.{Shape}
+use Rattle.treefile.specs.File.{Query, Parsed, badFile, file, parseFile, maxOffsets, maxFileTargets, maxQueries}
+
+-- the counts of a well-formed file and its root
+abbrev pub shapeOf : Parsed → Shape
+shapeOf badFile = record { good = false; offsets = 0; targets = 0; root = 0; queries = 0 }
+shapeOf (file f) = record { good = true; offsets = length (f .offsets); targets = length (f .targets); root = f .root; queries = length (f .queries) }
+
+abbrev pub offsetsOf : Parsed → List ℕ
+offsetsOf badFile = []
+offsetsOf (file f) = f .offsets
+
+abbrev pub targetsOf : Parsed → List ℕ
+targetsOf badFile = []
+targetsOf (file f) = f .targets
+
+-- queries in a plain list, four numbers each
+abbrev pub queryNumbers : List Query → List ℕ
+queryNumbers [] = []
+queryNumbers (q ∷ qs) = q .kind ∷ q .a ∷ q .b ∷ q .c ∷ queryNumbers qs
+
+abbrev pub queriesOf : Parsed → List ℕ
+queriesOf badFile = []
+queriesOf (file f) = queryNumbers (f .queries)
+
+-- the first entries are those of s, the rest is unchanged
+abbrev pub front : List ℕ → List ℕ → List ℕ
+front s lent = s ++ drop (length s) lent
+
+-- the buffers hold any well-formed file
+pub record Buffers (os ts qs : List ℕ) : Type 0 where
+  pub offsets : maxOffsets ≤ length os
+  pub targets : maxFileTargets ≤ length ts
+  pub queries : 4 * maxQueries ≤ length qs
+
+-- `parse` of the bytes answers r and leaves os′, ts′ and qs′ in the buffers; for a bad file they are unchanged
+pub record Parses (bytes os ts qs os′ ts′ qs′ : List ℕ) (r : Shape) : Type 0 where
+  pub shape : r ≡ shapeOf (parseFile bytes)
+  pub offsets : os′ ≡ front (offsetsOf (parseFile bytes)) os
+  pub targets : ts′ ≡ front (targetsOf (parseFile bytes)) ts
+  pub queries : qs′ ≡ front (queriesOf (parseFile bytes)) qs
