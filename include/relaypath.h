@@ -10,7 +10,8 @@
  * contents. Of the pointers the caller sees to it that
  *   - each is aligned and has as many entries as the length after it says,
  *     and only where that length is 0 may it be null;
- *   - an array that is written (`work`, and the tables) overlaps no other array;
+ *   - an array that is written (`work`, and the tables of a build) and the number
+ *     behind `answer` overlap nothing else that is lent;
  *   - nobody else writes the arrays, or reads those that are written, until the
  *     call returns.
  */
@@ -39,11 +40,13 @@ extern "C" {
 #define RELAYPATH_BAD_SIZE 1      /* fewer than two offsets, n or E above its limit, or a table not of n entries */
 #define RELAYPATH_NO_ROOM 2       /* work has fewer than 8n + E entries */
 #define RELAYPATH_BAD_OFFSETS 3   /* the first offset is not 0, an offset falls, or the last is not E */
-#define RELAYPATH_BAD_VERTEX 4    /* a target is n or more */
+#define RELAYPATH_BAD_VERTEX 4    /* a target, or a vertex argument of a query, is n or more */
 #define RELAYPATH_BAD_ROOT 5      /* the root is n or more */
 #define RELAYPATH_NOT_SYMMETRIC 6 /* some v stands in u's list more or less often than u in v's */
 #define RELAYPATH_DISCONNECTED 7  /* symmetric, but some vertex is not reached from the root */
 #define RELAYPATH_HAS_CYCLE 8     /* symmetric and all reached, but no tree */
+#define RELAYPATH_BAD_TABLE 9     /* a query met an entry that is not sound */
+#define RELAYPATH_TOO_FAR 10      /* there are fewer steps than were asked for */
 
 /*
  * Judges a graph, seen from root. Answers RELAYPATH_DONE exactly where it is a
@@ -91,6 +94,107 @@ uint32_t relaypath_try_hld(const uint32_t *offsets, size_t offsets_len,
                            uint32_t *order, size_t order_len,
                            uint32_t *size, size_t size_len,
                            uint32_t *work, size_t work_len);
+
+/*
+ * Queries on the six tables of a build. n is parent_len.
+ *
+ * Each answers RELAYPATH_DONE and writes the answer, or one of
+ * RELAYPATH_BAD_SIZE (n is not from 1 to RELAYPATH_MAX_VERTICES, or a table has
+ * not n entries), RELAYPATH_BAD_VERTEX, RELAYPATH_BAD_TABLE and
+ * RELAYPATH_TOO_FAR, and then leaves the answer as it was. The tables are never
+ * written. Tables that a build wrote never give RELAYPATH_BAD_TABLE; on any
+ * others each entry that is used is tested first.
+ * Time: at most proportional to the logarithm of n. They take no other memory.
+ */
+
+/* The number of vertices. */
+uint32_t relaypath_vertex_count(const uint32_t *parent, size_t parent_len,
+                                const uint32_t *depth, size_t depth_len,
+                                const uint32_t *head, size_t head_len,
+                                const uint32_t *id, size_t id_len,
+                                const uint32_t *order, size_t order_len,
+                                const uint32_t *size, size_t size_len,
+                                size_t *answer);
+
+/* The root that the tables were built from. */
+uint32_t relaypath_root(const uint32_t *parent, size_t parent_len,
+                        const uint32_t *depth, size_t depth_len,
+                        const uint32_t *head, size_t head_len,
+                        const uint32_t *id, size_t id_len,
+                        const uint32_t *order, size_t order_len,
+                        const uint32_t *size, size_t size_len,
+                        size_t *answer);
+
+/* The distance of v from the root. */
+uint32_t relaypath_depth(const uint32_t *parent, size_t parent_len,
+                         const uint32_t *depth, size_t depth_len,
+                         const uint32_t *head, size_t head_len,
+                         const uint32_t *id, size_t id_len,
+                         const uint32_t *order, size_t order_len,
+                         const uint32_t *size, size_t size_len,
+                         size_t v,
+                         size_t *answer);
+
+/* The number of v. */
+uint32_t relaypath_vertex_id(const uint32_t *parent, size_t parent_len,
+                             const uint32_t *depth, size_t depth_len,
+                             const uint32_t *head, size_t head_len,
+                             const uint32_t *id, size_t id_len,
+                             const uint32_t *order, size_t order_len,
+                             const uint32_t *size, size_t size_len,
+                             size_t v,
+                             size_t *answer);
+
+/* The number of edges between u and v. */
+uint32_t relaypath_distance(const uint32_t *parent, size_t parent_len,
+                            const uint32_t *depth, size_t depth_len,
+                            const uint32_t *head, size_t head_len,
+                            const uint32_t *id, size_t id_len,
+                            const uint32_t *order, size_t order_len,
+                            const uint32_t *size, size_t size_len,
+                            size_t u, size_t v,
+                            size_t *answer);
+
+/* The lowest common ancestor of u and v as if r were the root. */
+uint32_t relaypath_lca(const uint32_t *parent, size_t parent_len,
+                       const uint32_t *depth, size_t depth_len,
+                       const uint32_t *head, size_t head_len,
+                       const uint32_t *id, size_t id_len,
+                       const uint32_t *order, size_t order_len,
+                       const uint32_t *size, size_t size_len,
+                       size_t r, size_t u, size_t v,
+                       size_t *answer);
+
+/* The vertex k steps above v; RELAYPATH_TOO_FAR where there is none. */
+uint32_t relaypath_kth_ancestor(const uint32_t *parent, size_t parent_len,
+                                const uint32_t *depth, size_t depth_len,
+                                const uint32_t *head, size_t head_len,
+                                const uint32_t *id, size_t id_len,
+                                const uint32_t *order, size_t order_len,
+                                const uint32_t *size, size_t size_len,
+                                size_t v, size_t k,
+                                size_t *answer);
+
+/* The vertex k steps from u on the way to v; RELAYPATH_TOO_FAR where k is more
+ * than their distance. */
+uint32_t relaypath_jump(const uint32_t *parent, size_t parent_len,
+                        const uint32_t *depth, size_t depth_len,
+                        const uint32_t *head, size_t head_len,
+                        const uint32_t *id, size_t id_len,
+                        const uint32_t *order, size_t order_len,
+                        const uint32_t *size, size_t size_len,
+                        size_t u, size_t v, size_t k,
+                        size_t *answer);
+
+/* The number of vertices of v's subtree as if r were the root. */
+uint32_t relaypath_subtree_size(const uint32_t *parent, size_t parent_len,
+                                const uint32_t *depth, size_t depth_len,
+                                const uint32_t *head, size_t head_len,
+                                const uint32_t *id, size_t id_len,
+                                const uint32_t *order, size_t order_len,
+                                const uint32_t *size, size_t size_len,
+                                size_t r, size_t v,
+                                size_t *answer);
 
 #ifdef __cplusplus
 }

@@ -5,9 +5,11 @@
 //   compare --sample FILE       write a sample of the original's answers, for the crate `replay`
 //   compare --sample-hld FILE   write a sample of the original's tables, for the crate `replay_hld`
 //   compare --try NAME          run the original on one entry of the table in uneven.rs (used for those that never end)
+mod asked;
 mod calls;
 mod labelled;
 mod lists;
+mod queries;
 mod random;
 mod refused;
 mod sample;
@@ -27,6 +29,7 @@ fn compare(short: bool) -> ExitCode {
     labelled::all(&mut tally);
     shapes::all(&mut tally, short);
     refused::all(&mut tally);
+    queries::all(&mut tally, short);
     uneven::all(&mut tally, short);
     tally.verdict()
 }

@@ -1,6 +1,5 @@
 -- Laws of the queries that climb: what each answers, by how its climbs end.
 use Prim.Native.Nat.{ℕ, _+_, _-_, _*_, _≤_, _<_}
-use native.Mathlib.Omega.{arith}
 use mathlib.Core.Path.{_≡_, sym, ap, _∙_, subst}
 use lib.Dec.{leb}
 use borrow.Author.Tests.{le-leb, lt-leb}

@@ -1,25 +1,23 @@
 -- Laws of the climb: one look of it in each case, what a move keeps, and the state of a climb under way.
-use Prim.Native.Nat.{ℕ, zero, suc, _+_, _-_, _*_, _≤_, _<_}
+use Prim.Native.Nat.{ℕ, suc, _+_, _-_, _*_, _≤_, _<_}
 use native.Mathlib.Omega.{arith}
-use mathlib.Core.Path.{_≡_, refl, sym, ap, _∙_, subst}
+use mathlib.Core.Path.{_≡_, refl, ap}
 use mathlib.Core.Bool.{Bool, true, false}
 use mathlib.Core.List.{List}
 use lib.Dec.{eqb, ltb}
-use lib.ListN.{length}
 use borrow.Author.Tests.{lt-ltb, le-ltb, le-leb, lt-leb, eq-eqb, ne-eqb, ltb-true, eqb-false}
 use Rattle.sums.specs.Sum.{at}
 use Rattle.graph.specs.Limits.{noParent}
 use Rattle.numbering.specs.Log.{log2}
-use Rattle.tables.specs.Tables.{Six, six}
+use Rattle.tables.specs.Tables.{Six}
 use Rattle.climb.specs.Choice.{pick}
 use Rattle.climb.specs.Sound.{standOn}
-use Rattle.climb.specs.Climbing.{leaveChain, climbing, climbTo, climbStart, uMoved, vMoved, ancestorOf}
+use Rattle.climb.specs.Climbing.{leaveChain, climbing, climbTo, climbStart, uMoved, vMoved}
 use Rattle.climb.specs.Inner.{Placed}
 use Rattle.climb.specs.declared.places.Place.{Place}
 use Rattle.climb.specs.declared.places.Climb.{Climb}
 use Rattle.climb.specs.declared.places.Stood.{Stood}
 use Rattle.climb.specs.declared.places.Stood.the-variants.{On, Unsound}
-use Rattle.climb.specs.declared.places.Climbed.{Climbed}
 use Rattle.climb.specs.declared.places.Climbed.the-variants.{Met, Lost}
 use Rattle.climb.proofs.Soundness.{stood-place, stood-placed}
 

@@ -1,16 +1,14 @@
 -- Laws of subtrees: the tests of a size, and what the queries on sizes answer by how their tests end.
 use Prim.Native.Nat.{ℕ, _+_, _-_, _≤_, _<_}
-use native.Mathlib.Omega.{arith}
 use mathlib.Core.Path.{_≡_, refl, sym, ap, _∙_, subst}
 use mathlib.Core.Bool.{Bool, true, false}
-use mathlib.Core.List.{List, [], _∷_}
 use lib.Dec.{eqb, leb, ltb}
 use borrow.Author.Tests.{le-leb, lt-leb, lt-ltb, le-ltb, eq-eqb, ne-eqb, leb-true}
 use Rattle.sums.specs.Sum.{at}
 use Rattle.tables.specs.Tables.{Six}
 use Rattle.climb.specs.Choice.{pick, both}
 use Rattle.climb.specs.Sound.{sound?, standOn, placeOf}
-use Rattle.climb.specs.Queries.{sizeOf, ancestorIn, withoutChild, reRootedSize, sizeSound?}
+use Rattle.climb.specs.Queries.{ancestorIn, withoutChild, reRootedSize, sizeSound?}
 use Rattle.climb.specs.Inner.{counted?}
 use Rattle.climb.specs.declared.places.Place.{Place}
 use Rattle.climb.specs.declared.places.Stood.the-variants.{On, Unsound}
@@ -21,7 +19,7 @@ use Rattle.climb.specs.declared.answers.Answer.the-variants.{Is, Refused
 use Rattle.climb.specs.declared.answers.Interval.{Interval}
 use Rattle.climb.specs.declared.answers.Interval.the-variants.{Between, Refused as NoInterval}
 use Rattle.climb.proofs.Choices.{both-true}
-use Rattle.climb.proofs.Soundness.{stood-place, stood-sound, unstood}
+use Rattle.climb.proofs.Soundness.{stood-place, stood-vertex, stood-sound, unstood}
 
 pub counted-ends : (n i count : ℕ) → counted? n i count ≡ true → i + count ≤ n
 counted-ends n i count e = leb-true (i + count) n (both-true (leb 1 count) _ e .1)
@@ -110,5 +108,7 @@ module _ (n : ℕ) (t : Six) (r v : ℕ) where
       pub size-whole : r ≡ v → Is n ≡ sizeIn n t r v
       size-whole e = rw (stood-sound n t r on-a, stood-sound n t v on-b, eq-eqb r v e)
 
-      pub size-other : (r ≡ v → ⊥) → reRootedSize n t r v ≡ sizeIn n t r v
-      size-other e = rw (stood-sound n t r on-a, stood-sound n t v on-b, ne-eqb r v e)
+      pub size-other : (r ≡ v → ⊥) → reRootedSize n t (a .vertex) (b .vertex) ≡ sizeIn n t r v
+      size-other e =
+          ap (λ (x : ℕ). reRootedSize n t x (b .vertex)) (stood-vertex n t r on-a)
+          ∙ (ap (reRootedSize n t r) (stood-vertex n t v on-b) ∙ rw (stood-sound n t r on-a, stood-sound n t v on-b, ne-eqb r v e))

@@ -9,8 +9,7 @@ use borrow.Author.Tests.{le-leb, lt-leb}
 use Rattle.sums.specs.Sum.{at}
 use Rattle.numbering.specs.Log.{log2}
 use Rattle.tables.specs.Tables.{Six, six}
-use Rattle.climb.specs.Sound.{standOn}
-use Rattle.climb.specs.Climbing.{leaveChain, climbing, climbTo, climbStart, uMoved, vMoved, ancestorOf}
+use Rattle.climb.specs.Climbing.{climbing, climbTo, climbStart, uMoved, vMoved, ancestorOf}
 use Rattle.climb.specs.Inner.{Placed, Climbs, ClimbedTo, StoodOn, Left}
 use Rattle.climb.specs.declared.places.Place.{Place}
 use Rattle.climb.specs.declared.places.Climb.{Climb}

@@ -1,10 +1,10 @@
 -- Laws of the tests before a query: what they answer, and what it tells a query that they were passed.
-use Prim.Native.Nat.{ℕ, zero, suc, _+_, _≤_, _<_}
+use Prim.Native.Nat.{ℕ, _+_, _≤_, _<_}
 use native.Mathlib.Omega.{arith}
 use native.Mathlib.Numerals.{add-one}
 use mathlib.Core.Path.{_≡_, refl, sym, ap, _∙_}
 use mathlib.Core.Bool.{Bool, true, false}
-use mathlib.Core.List.{List, [], _∷_}
+use mathlib.Core.List.{List, _∷_}
 use lib.Dec.{eqb, leb, ltb}
 use lib.ListN.{length, drop, getD, drop-of-length-le}
 use lib.Seq.{drop-cons}
@@ -16,7 +16,6 @@ use Rattle.climb.specs.Queries.{sizeOf, tables?, vertices?, asked}
 use Rattle.climb.specs.Inner.{Even}
 use Rattle.climb.specs.declared.answers.Refusal.{Refusal}
 use Rattle.climb.specs.declared.answers.Refusal.the-variants.{BadSize, BadVertex}
-use Rattle.climb.specs.declared.asked.Verdict.{Verdict}
 use Rattle.climb.specs.declared.asked.Verdict.the-variants.{Ready, Refused}
 use Rattle.climb.proofs.Choices.{both-true}
 

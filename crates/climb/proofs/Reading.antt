@@ -1,21 +1,20 @@
 -- Laws of the queries that read one vertex: what they answer once the tests before them were passed.
 use Prim.Native.Nat.{ℕ, _≤_, _<_}
-use mathlib.Core.Path.{_≡_, refl, sym, ap, _∙_}
-use mathlib.Core.Bool.{true, false}
-use mathlib.Core.List.{List, [], _∷_}
+use mathlib.Core.Path.{_≡_, ap, _∙_}
+use mathlib.Core.List.{[], _∷_}
 use lib.Dec.{ltb}
 use borrow.Author.Tests.{lt-ltb, le-ltb}
 use Rattle.sums.specs.Sum.{at}
 use Rattle.tables.specs.Tables.{Six}
 use Rattle.climb.specs.Choice.{pick, both}
-use Rattle.climb.specs.Sound.{depthIn, idIn, sound?, standOn}
-use Rattle.climb.specs.Queries.{sizeOf, asked, vertexCount, rootOf, depthOf, vertexId}
+use Rattle.climb.specs.Sound.{sound?, standOn}
+use Rattle.climb.specs.Queries.{sizeOf, asked, vertexCount, rootOf}
 use Rattle.climb.specs.declared.places.Place.{Place}
 use Rattle.climb.specs.declared.places.Stood.the-variants.{On, Unsound}
 use Rattle.climb.specs.declared.answers.Refusal.the-variants.{BadTable}
 use Rattle.climb.specs.declared.answers.Answer.{Answer}
 use Rattle.climb.specs.declared.answers.Answer.the-variants.{Is, Refused}
-use Rattle.climb.proofs.Soundness.{stood-place, stood-sound, unstood}
+use Rattle.climb.proofs.Soundness.{stood-sound, unstood}
 use Rattle.climb.proofs.Passed.{Passed, asked-answer}
 
 pub count-answer : (t : Six) → Passed t [] → Is (sizeOf t) ≡ vertexCount t

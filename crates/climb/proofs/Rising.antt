@@ -1,11 +1,11 @@
 -- Laws of the ancestor lookup: one chain of it in each case, and that a vertex it finds is below n.
 use Prim.Native.Nat.{ℕ, zero, suc, _+_, _-_, _≤_, _<_}
 use native.Mathlib.Omega.{arith}
-use mathlib.Core.Path.{_≡_, refl, sym, ap, _∙_, subst}
+use mathlib.Core.Path.{_≡_, refl, ap, _∙_, subst}
 use mathlib.Core.Bool.{Bool, true, false}
 use mathlib.Core.List.{List}
 use lib.Dec.{eqb, leb, ltb}
-use borrow.Author.Tests.{le-leb, lt-leb, eq-eqb, ne-eqb, lt-ltb, le-ltb, ltb-true}
+use borrow.Author.Tests.{le-leb, lt-leb, eq-eqb, ne-eqb, ltb-true}
 use Rattle.sums.specs.Sum.{at}
 use Rattle.graph.specs.Limits.{noParent}
 use Rattle.numbering.specs.Log.{log2}

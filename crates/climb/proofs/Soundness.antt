@@ -1,11 +1,11 @@
 -- Laws of soundness: how the tests add up to it, and what it tells of the place where a query stands.
 use Prim.Native.Nat.{ℕ, _+_, _-_, _≤_, _<_}
 use native.Mathlib.Omega.{arith}
-use mathlib.Core.Path.{_≡_, refl, sym, ap, _∙_, subst}
+use mathlib.Core.Path.{_≡_, refl, sym, ap, subst}
 use mathlib.Core.Bool.{Bool, true, false}
 use mathlib.Core.List.{List}
 use lib.Dec.{eqb, leb, ltb}
-use borrow.Author.Tests.{lt-ltb, le-ltb, ltb-true, leb-true, eqb-true, eqb-false, ne-eqb}
+use borrow.Author.Tests.{lt-ltb, le-ltb, ltb-true, leb-true, eqb-true, ne-eqb}
 use Rattle.sums.specs.Sum.{at}
 use Rattle.graph.specs.Limits.{noParent}
 use Rattle.tables.specs.Tables.{Six}
@@ -13,7 +13,6 @@ use Rattle.climb.specs.Choice.{pick, both}
 use Rattle.climb.specs.Sound.{depthIn, headIn, idIn, parentIn, sound?, standOn, placeOf}
 use Rattle.climb.specs.Inner.{chained?, hangs?, Placed}
 use Rattle.climb.specs.declared.places.Place.{Place}
-use Rattle.climb.specs.declared.places.Stood.{Stood}
 use Rattle.climb.specs.declared.places.Stood.the-variants.{On, Unsound}
 use Rattle.climb.proofs.Choices.{both-last, both-true}
 
@@ -106,3 +105,7 @@ unstood n t x e = fallen (sound? n t x) (placeOf t x) e
 -- a place names the vertex that was stood on
 pub stood-vertex : (n : ℕ) (t : Six) (x : ℕ) {p : Place} → standOn n t x ≡ On p → p .vertex ≡ x
 stood-vertex n t x e = ap (λ (q : Place). q .vertex) (stood-place n t x e)
+
+-- so that standing on it again finds the same place
+pub stood-again : (n : ℕ) (t : Six) (x : ℕ) {p : Place} → standOn n t x ≡ On p → On p ≡ standOn n t (p .vertex)
+stood-again n t x {p} e = sym (subst (λ (y : ℕ). standOn n t y ≡ On p) (sym (stood-vertex n t x e)) e)

@@ -1,3 +1,4 @@
+// Queries on any lent tables: the climb, ancestors, LCA, jump, distance and sizes. Each entry that a query uses is tested.
 pub mod ancestors;
 pub mod answers;
 pub mod asked;
@@ -6,4 +7,5 @@ pub mod log;
 pub mod places;
 pub mod queries;
 pub mod reads;
+pub mod sizes;
 pub mod sound;

@@ -2,16 +2,8 @@
 use borrow.Author.Needs.{needs}
 use Rattle.climb.proofs.ancestors.ancestor_in.Statement.{statement}
 use Rattle.climb.proofs.ancestors.ancestor_in.Tie as tie
-use Rattle.climb.proofs.ancestors.ancestor_in.Reads as reads
-use Rattle.climb.proofs.ancestors.ancestor_in.Lts as lts
-use Rattle.climb.proofs.ancestors.ancestor_from.Reads as ancestor-from-reads
-use Rattle.climb.proofs.sound.stand.Reads as stand-reads
-use mathlib.Core.Path.{sym, ap, _∙_}
-use Prim.Native.Nat.{ℕ}
+use mathlib.Core.Path.{sym, _∙_}
 use mathlib.Core.List.{[]}
-use lib.ListN.{length}
-use Rattle.tables.specs.Tables.{six}
-use Rattle.climb.specs.Queries.{ancestorFrom}
 use Rattle.climb.proofs.Soundness.{stood-placed}
 use Rattle.climb.proofs.Rising.{rise-from, rise-off}
 

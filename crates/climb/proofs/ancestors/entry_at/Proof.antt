@@ -2,8 +2,6 @@
 use borrow.Author.Needs.{needs}
 use Rattle.climb.proofs.ancestors.entry_at.Statement.{statement}
 use Rattle.climb.proofs.ancestors.entry_at.Tie as tie
-use Rattle.climb.proofs.ancestors.entry_at.Reads as reads
-use Rattle.climb.proofs.ancestors.entry_at.Lts as lts
 use borrow.Author.Tests.{lt-ltb, le-ltb, eq-eqb, ne-eqb}
 use mir.Facts.{fits-widen}
 

@@ -2,10 +2,6 @@
 use borrow.Author.Needs.{needs}
 use Rattle.climb.proofs.ancestors.one_chain.Statement.{statement}
 use Rattle.climb.proofs.ancestors.one_chain.Tie as tie
-use Rattle.climb.proofs.ancestors.one_chain.Reads as reads
-use Rattle.climb.proofs.ancestors.one_chain.Lts as lts
-use Rattle.climb.proofs.ancestors.entry_at.Reads as entry-at-reads
-use Rattle.climb.proofs.sound.stand.Reads as stand-reads
 use native.Mathlib.Omega.{arith}
 use mathlib.Core.Path.{sym, _∙_}
 use mathlib.Core.List.{[]}

@@ -2,10 +2,6 @@
 use borrow.Author.Needs.{needs}
 use Rattle.climb.proofs.asked.asked.Statement.{statement}
 use Rattle.climb.proofs.asked.asked.Tie as tie
-use Rattle.climb.proofs.asked.asked.Reads as reads
-use Rattle.climb.proofs.asked.asked.Lts as lts
-use Rattle.climb.proofs.asked.below.Reads as below-reads
-use Rattle.climb.proofs.asked.tables.Reads as tables-reads
 use borrow.Author.Tests.{not-true, not-false}
 use mathlib.Core.Path.{sym, _∙_}
 use Rattle.climb.specs.declared.asked.Verdict.the-variants.{Ready, Refused}

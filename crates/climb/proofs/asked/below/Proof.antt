@@ -1,12 +1,10 @@
 -- `asked::below` meets its contract: what is left of the vertices decides.
 use Rattle.climb.proofs.asked.below.Statement.{statement}
 use Rattle.climb.proofs.asked.below.Tie as tie
-use Rattle.climb.proofs.asked.below.Reads as reads
-use Rattle.climb.proofs.asked.below.Lts as lts
 use borrow.Author.Needs.{needs}
 use Prim.Native.Nat.{_≤_, _-_}
 use native.Mathlib.Omega.{arith}
-use mathlib.Core.Path.{_≡_, refl, sym, ap, _∙_}
+use mathlib.Core.Path.{_≡_, refl, _∙_}
 use lib.ListN.{length, drop}
 use Rattle.climb.specs.Queries.{vertices?}
 use Rattle.climb.proofs.Passed.{vertices-next, vertices-stop, vertices-end}

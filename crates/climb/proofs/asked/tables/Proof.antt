@@ -1,8 +1,6 @@
 -- `asked::tables` meets its contract: each return says how far its tests passed.
 use Rattle.climb.proofs.asked.tables.Statement.{statement}
 use Rattle.climb.proofs.asked.tables.Tie as tie
-use Rattle.climb.proofs.asked.tables.Reads as reads
-use Rattle.climb.proofs.asked.tables.Lts as lts
 use borrow.Author.Tests.{le-leb, lt-leb, eq-eqb, ne-eqb}
 use Rattle.graph.specs.Limits.{maxVertices}
 

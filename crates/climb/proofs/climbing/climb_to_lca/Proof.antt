@@ -1,13 +1,6 @@
 -- `climbing::climb_to_lca` meets its contract: the loop keeps a climb under way, and each way out ends it.
 use Rattle.climb.proofs.climbing.climb_to_lca.Statement.{statement}
 use Rattle.climb.proofs.climbing.climb_to_lca.Tie as tie
-use Rattle.climb.proofs.climbing.climb_to_lca.Reads as reads
-use Rattle.climb.proofs.climbing.climb_to_lca.Lts as lts
-use Rattle.climb.proofs.climbing.leave_chain.Reads as leave-chain-reads
-use Rattle.climb.proofs.places.Climb.new.Reads as new-reads
-use Rattle.climb.proofs.places.Climb.u_moved.Reads as u-moved-reads
-use Rattle.climb.proofs.places.Climb.v_moved.Reads as v-moved-reads
-use Rattle.climb.proofs.sound.stand.Reads as stand-reads
 use borrow.Author.Needs.{needs}
 use native.Mathlib.Omega.{arith}
 use mathlib.Core.Path.{sym, _∙_}

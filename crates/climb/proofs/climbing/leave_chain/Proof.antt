@@ -2,9 +2,6 @@
 use borrow.Author.Needs.{needs}
 use Rattle.climb.proofs.climbing.leave_chain.Statement.{statement}
 use Rattle.climb.proofs.climbing.leave_chain.Tie as tie
-use Rattle.climb.proofs.climbing.leave_chain.Reads as reads
-use Rattle.climb.proofs.climbing.leave_chain.Lts as lts
-use Rattle.climb.proofs.sound.stand.Reads as stand-reads
 use native.Mathlib.Omega.{arith}
 use mathlib.Core.Path.{_∙_}
 use Rattle.graph.specs.Limits.{noParent}

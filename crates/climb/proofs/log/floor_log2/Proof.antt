@@ -1,8 +1,6 @@
 -- `log::floor_log2` meets its contract: the halvings done and those of what is left are those of n.
 use Rattle.climb.proofs.log.floor_log2.Statement.{statement}
 use Rattle.climb.proofs.log.floor_log2.Tie as tie
-use Rattle.climb.proofs.log.floor_log2.Reads as reads
-use Rattle.climb.proofs.log.floor_log2.Lts as lts
 use Prim.Native.Nat.{_≤_, _+_}
 use mathlib.Core.Path.{_≡_}
 use native.Mathlib.Omega.{arith}

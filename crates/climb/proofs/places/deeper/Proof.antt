@@ -1,7 +1,5 @@
 use Rattle.climb.proofs.places.deeper.Statement.{statement}
 use Rattle.climb.proofs.places.deeper.Tie as tie
-use Rattle.climb.proofs.places.deeper.Reads as reads
-use Rattle.climb.proofs.places.deeper.Lts as lts
 use borrow.Author.Tests.{le-leb, lt-leb}
 
 returns : tie.Need-returns

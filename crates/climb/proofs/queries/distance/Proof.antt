@@ -2,21 +2,13 @@
 use borrow.Author.Needs.{needs}
 use Rattle.climb.proofs.queries.distance.Statement.{statement}
 use Rattle.climb.proofs.queries.distance.Tie as tie
-use Rattle.climb.proofs.queries.distance.Reads as reads
-use Rattle.climb.proofs.queries.distance.Lts as lts
-use Rattle.climb.proofs.asked.asked.Reads as asked-reads
-use Rattle.climb.proofs.climbing.climb_to_lca.Reads as climb-to-lca-reads
-use Rattle.climb.proofs.log.floor_log2.Reads as floor-log2-reads
-use Rattle.climb.proofs.places.Climb.ancestor.Reads as ancestor-reads
-use mathlib.Core.Path.{sym, ap, _∙_}
+use mathlib.Core.Path.{sym, _∙_}
 use mathlib.Core.List.{[], _∷_}
 use Rattle.tables.specs.Tables.{Six, six}
 use Rattle.climb.specs.declared.answers.Answer.the-variants.{Refused}
 use Rattle.climb.proofs.Passed.{Passed, verdict-passed, verdict-refused, answered, lengths, first-below, others}
-use Prim.Native.Nat.{_≤_}
 use native.Mathlib.Omega.{arith}
 use mir.Facts.{fits-widen}
-use Rattle.sums.specs.Sum.{at}
 use Rattle.climb.proofs.Answering.{distance-lost, distance-met, no-deeper}
 
 abbrev lent : tie.Start → Six

@@ -2,16 +2,11 @@
 use borrow.Author.Needs.{needs}
 use Rattle.climb.proofs.queries.kth_ancestor.Statement.{statement}
 use Rattle.climb.proofs.queries.kth_ancestor.Tie as tie
-use Rattle.climb.proofs.queries.kth_ancestor.Reads as reads
-use Rattle.climb.proofs.queries.kth_ancestor.Lts as lts
-use Rattle.climb.proofs.ancestors.ancestor_in.Reads as ancestor-in-reads
-use Rattle.climb.proofs.asked.asked.Reads as asked-reads
-use Rattle.climb.proofs.log.floor_log2.Reads as floor-log2-reads
-use mathlib.Core.Path.{sym, ap, _∙_}
+use mathlib.Core.Path.{sym, _∙_}
 use mathlib.Core.List.{[], _∷_}
 use Rattle.tables.specs.Tables.{Six, six}
 use Rattle.climb.specs.declared.answers.Answer.the-variants.{Refused}
-use Rattle.climb.proofs.Passed.{Passed, verdict-passed, verdict-refused, answered, lengths, first-below, others}
+use Rattle.climb.proofs.Passed.{Passed, verdict-passed, verdict-refused, answered, lengths, first-below}
 
 abbrev lent : tie.Start → Six
 lent b = six (b .args .parent .now) (b .args .depth .now) (b .args .head .now) (b .args .id .now) (b .args .order .now) (b .args .size .now)

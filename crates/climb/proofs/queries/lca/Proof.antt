@@ -2,14 +2,7 @@
 use borrow.Author.Needs.{needs}
 use Rattle.climb.proofs.queries.lca.Statement.{statement}
 use Rattle.climb.proofs.queries.lca.Tie as tie
-use Rattle.climb.proofs.queries.lca.Reads as reads
-use Rattle.climb.proofs.queries.lca.Lts as lts
-use Rattle.climb.proofs.asked.asked.Reads as asked-reads
-use Rattle.climb.proofs.climbing.climb_to_lca.Reads as climb-to-lca-reads
-use Rattle.climb.proofs.log.floor_log2.Reads as floor-log2-reads
-use Rattle.climb.proofs.places.Climb.ancestor.Reads as ancestor-reads
-use Rattle.climb.proofs.places.deeper.Reads as deeper-reads
-use mathlib.Core.Path.{sym, ap, _∙_}
+use mathlib.Core.Path.{sym, _∙_}
 use mathlib.Core.List.{[], _∷_}
 use Rattle.tables.specs.Tables.{Six, six}
 use Rattle.climb.specs.declared.answers.Answer.the-variants.{Refused}

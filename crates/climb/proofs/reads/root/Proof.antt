@@ -3,14 +3,11 @@ use borrow.Author.Needs.{needs}
 use Rattle.climb.proofs.reads.root.Statement.{statement}
 use Rattle.climb.proofs.reads.root.Tie as tie
 use Rattle.climb.proofs.reads.root.Reads as reads
-use Rattle.climb.proofs.reads.root.Lts as lts
-use Rattle.climb.proofs.asked.asked.Reads as asked-reads
-use Rattle.climb.proofs.sound.stand.Reads as stand-reads
-use mathlib.Core.Path.{sym, ap, _∙_}
-use mathlib.Core.List.{[], _∷_}
+use mathlib.Core.Path.{sym, _∙_}
+use mathlib.Core.List.{[]}
 use Rattle.tables.specs.Tables.{Six, six}
 use Rattle.climb.specs.declared.answers.Answer.the-variants.{Refused}
-use Rattle.climb.proofs.Passed.{Passed, verdict-passed, verdict-refused, lengths, first-below, others}
+use Rattle.climb.proofs.Passed.{Passed, verdict-passed, verdict-refused, lengths}
 use native.Mathlib.Omega.{arith}
 use mir.Facts.{fits-widen}
 use Rattle.climb.proofs.Reading.{root-beyond, root-off, root-on}

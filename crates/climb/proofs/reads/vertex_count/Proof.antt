@@ -3,13 +3,11 @@ use borrow.Author.Needs.{needs}
 use Rattle.climb.proofs.reads.vertex_count.Statement.{statement}
 use Rattle.climb.proofs.reads.vertex_count.Tie as tie
 use Rattle.climb.proofs.reads.vertex_count.Reads as reads
-use Rattle.climb.proofs.reads.vertex_count.Lts as lts
-use Rattle.climb.proofs.asked.asked.Reads as asked-reads
-use mathlib.Core.Path.{sym, ap, _∙_}
-use mathlib.Core.List.{[], _∷_}
+use mathlib.Core.Path.{sym, _∙_}
+use mathlib.Core.List.{[]}
 use Rattle.tables.specs.Tables.{Six, six}
 use Rattle.climb.specs.declared.answers.Answer.the-variants.{Refused}
-use Rattle.climb.proofs.Passed.{Passed, verdict-passed, verdict-refused, lengths, first-below, others}
+use Rattle.climb.proofs.Passed.{Passed, verdict-passed, verdict-refused}
 use Rattle.climb.proofs.Reading.{count-answer}
 
 abbrev lent : tie.Start → Six

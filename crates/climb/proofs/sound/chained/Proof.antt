@@ -1,8 +1,6 @@
 -- `sound::chained` meets its contract: each return says how far its tests passed.
 use Rattle.climb.proofs.sound.chained.Statement.{statement}
 use Rattle.climb.proofs.sound.chained.Tie as tie
-use Rattle.climb.proofs.sound.chained.Reads as reads
-use Rattle.climb.proofs.sound.chained.Lts as lts
 use borrow.Author.Tests.{lt-ltb, le-ltb, le-leb, lt-leb}
 
 returns : tie.Need-returns

@@ -2,9 +2,7 @@
 use borrow.Author.Needs.{needs}
 use Rattle.climb.proofs.sound.hangs.Statement.{statement}
 use Rattle.climb.proofs.sound.hangs.Tie as tie
-use Rattle.climb.proofs.sound.hangs.Reads as reads
-use Rattle.climb.proofs.sound.hangs.Lts as lts
-use borrow.Author.Tests.{lt-ltb, le-ltb, le-leb, lt-leb, eq-eqb, ne-eqb}
+use borrow.Author.Tests.{lt-ltb, le-ltb, eq-eqb, ne-eqb}
 use native.Mathlib.Omega.{arith}
 use Rattle.graph.specs.Limits.{noParent}
 

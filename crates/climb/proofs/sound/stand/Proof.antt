@@ -2,10 +2,6 @@
 use borrow.Author.Needs.{needs}
 use Rattle.climb.proofs.sound.stand.Statement.{statement}
 use Rattle.climb.proofs.sound.stand.Tie as tie
-use Rattle.climb.proofs.sound.stand.Reads as reads
-use Rattle.climb.proofs.sound.stand.Lts as lts
-use Rattle.climb.proofs.sound.chained.Reads as chained-reads
-use Rattle.climb.proofs.sound.hangs.Reads as hangs-reads
 use borrow.Author.Tests.{not-true, not-false}
 use mathlib.Core.Path.{sym, _∙_}
 use mir.Facts.{fits-widen}

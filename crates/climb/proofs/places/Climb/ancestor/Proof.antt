@@ -1,7 +1,5 @@
 use Rattle.climb.proofs.places.Climb.ancestor.Statement.{statement}
 use Rattle.climb.proofs.places.Climb.ancestor.Tie as tie
-use Rattle.climb.proofs.places.Climb.ancestor.Reads as reads
-use Rattle.climb.proofs.places.Climb.ancestor.Lts as lts
 use borrow.Author.Tests.{le-leb, lt-leb}
 
 returns : tie.Need-returns
