@@ -5,6 +5,8 @@ use Rattle.climb.specs.declared.answers.Refusal.{Refusal}
 use Rattle.climb.specs.declared.answers.Refusal.the-variants.{BadSize, NoRoom, BadVertex, BadTable, TooFar}
 use Rattle.climb.specs.declared.answers.Answer.{Answer}
 use Rattle.climb.specs.declared.answers.Answer.the-variants.{Is, Refused}
+use Rattle.climb.specs.declared.answers.Interval.{Interval}
+use Rattle.climb.specs.declared.answers.Interval.the-variants.{Between, Refused as NoInterval}
 
 abbrev pub refusalCode : Refusal → ℕ
 refusalCode BadSize = 1
@@ -20,3 +22,11 @@ answerCode (Refused r) = refusalCode r
 abbrev pub answerValues : Answer → List ℕ
 answerValues (Is x) = x ∷ []
 answerValues (Refused r) = []
+
+abbrev pub intervalCode : Interval → ℕ
+intervalCode (Between a e) = 0
+intervalCode (NoInterval r) = refusalCode r
+
+abbrev pub intervalValues : Interval → List ℕ
+intervalValues (Between a e) = a ∷ e ∷ []
+intervalValues (NoInterval r) = []

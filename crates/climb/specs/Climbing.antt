@@ -1,6 +1,6 @@
 -- 01, "Sound entries": the climb of two ends until their heads are the same, on any tables.
 use Prim.Native.Nat.{ℕ, zero, suc, _+_, _*_}
-use mathlib.Core.Bool.{Bool, true, false}
+use mathlib.Core.Bool.{true, false}
 use lib.Dec.{eqb, leb, ltb}
 use Rattle.graph.specs.Limits.{noParent}
 use Rattle.numbering.specs.Log.{log2}

@@ -1,7 +1,7 @@
 -- 01, "Sound entries": "Vertex x with h = head(x) is sound when h < n; depth(h) ≤ depth(x) < n; id(h) ≤ id(x) < n; id(x)−id(h) =
 -- depth(x)−depth(h); and either h has no parent and depth 0, or its parent p is below n, depth(p)+1 = depth(h) and id(p) < id(h)."
 use Prim.Native.Nat.{ℕ, _+_, _-_}
-use mathlib.Core.Bool.{Bool, true, false}
+use mathlib.Core.Bool.{Bool}
 use lib.Dec.{eqb, leb, ltb}
 use Rattle.sums.specs.Sum.{at}
 use Rattle.graph.specs.Limits.{noParent}

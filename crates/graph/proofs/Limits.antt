@@ -1,5 +1,5 @@
 -- What proofs need of the limits: they are small enough for 32-bit numbers, and for sums of a few of them in 64 bits.
-use Prim.Native.Nat.{ℕ, _<_, _^_}
+use Prim.Native.Nat.{_<_, _^_}
 use native.Mathlib.Omega.{arith}
 use Rattle.graph.specs.Limits.{maxVertices, maxTargets}
 

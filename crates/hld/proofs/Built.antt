@@ -1,25 +1,20 @@
 -- The passes of the build put together: the tables that they leave are those of 01.
-use Prim.Native.Nat.{ℕ, zero, suc, _+_, _-_, _*_, _≤_, _<_, _^_}
+use Prim.Native.Nat.{ℕ, suc, _+_, _-_, _*_, _≤_, _<_, _^_}
 use native.Mathlib.Omega.{arith}
-use mathlib.Core.Path.{_≡_, refl, sym, ap, _∙_, subst}
+use mathlib.Core.Path.{_≡_, refl, sym, ap, _∙_}
 use mathlib.Core.List.{List}
-use mathlib.Core.Bool.{Bool}
 use lib.Dec.{eqb}
 use lib.ListN.{length}
 use Rattle.sums.specs.Sum.{at}
-use Rattle.paths.specs.Walk.{In, Below}
+use Rattle.paths.specs.Walk.{Below}
 use Rattle.paths.specs.Tree.{Tree}
-use Rattle.graph.specs.Limits.{noParent}
-use Rattle.graph.specs.Work.{Only}
-use Rattle.graph.proofs.Frames.{only-trans, only-wider}
 use Rattle.numbering.specs.Numbering.{total}
-use Rattle.numbering.specs.RuleOne.{keep}
 use Rattle.numbering.proofs.Kept.{keep-ext}
 use Rattle.passes.specs.Passes.{from, run, heavyOf, region, Weighed, Ranked, WeighAsks, WeighAnswers, NumberAsks, NumberAnswers}
 use Rattle.visit.specs.Visit.{Visited, queueIn, upIn}
 use Rattle.visit.proofs.Positions.{Places, places, visited-same}
 use Rattle.tables.specs.Tables.{Six, Long, TablesOf}
-use Rattle.hld.specs.Scatter.{parentAt, ScatterAsks, Filled}
+use Rattle.hld.specs.Scatter.{ScatterAsks, Filled}
 use Rattle.hld.proofs.Rising.{from-in}
 use Rattle.hld.proofs.Tabled.{Holds, table-span, table-arrangement}
 use Rattle.hld.proofs.Ranks.{tops-below, ranks-injective, ranks-below}

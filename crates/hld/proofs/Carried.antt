@@ -1,8 +1,8 @@
 -- From positions to vertices: rule 1's order, sizes and numbers are carried over by the vertex at each position.
-use Prim.Native.Nat.{ℕ, zero, suc, _+_, _-_, _≤_, _<_}
+use Prim.Native.Nat.{ℕ, _+_, _-_}
 use native.Mathlib.Omega.{arith}
 use mathlib.Core.Path.{_≡_, refl, sym, ap, ap₂, _∙_, subst}
-use mathlib.Core.Logic.{_≢_, inl, inr, by-cases}
+use mathlib.Core.Logic.{inl, inr, by-cases}
 use native.Mathlib.Decide.{decLt}
 use mathlib.Core.List.{List, [], _∷_, _++_, map, reverse, reverse-cons}
 use Rattle.sums.proofs.Sums.{equal-or-not}

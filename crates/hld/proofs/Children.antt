@@ -1,9 +1,8 @@
 -- The children of a vertex in list order are the run of its position: positions whose parent's position it is, in the order of the visit.
-use Prim.Native.Nat.{ℕ, zero, suc, _+_, _-_, _≤_, _<_}
+use Prim.Native.Nat.{ℕ, _+_, _-_, _≤_, _<_}
 use native.Mathlib.Omega.{arith}
 use mathlib.Core.Path.{_≡_, refl, sym, ap, ap₂, _∙_, subst}
-use mathlib.Core.Logic.{_≢_, _⊎_, inl, inr, ⊎-elim, _↔_}
-use mathlib.Core.Bool.{Bool, true, false}
+use mathlib.Core.Logic.{inl, inr, _↔_}
 use mathlib.Core.List.{List, [], _∷_, map}
 use lib.Dec.{eqb}
 use lib.ListN.{length}
@@ -19,7 +18,7 @@ use Rattle.numbering.proofs.Kept.{keep-in, child-true}
 use Rattle.passes.specs.Passes.{from, run}
 use Rattle.visit.specs.Visit.{Visited}
 use Rattle.visit.proofs.Positions.{Places, at-in}
-use Rattle.hld.proofs.Rising.{Above, Rises, above-in, above-of, rises-same, from-in, from-rises, keep-rises, keep-places, nodup-at}
+use Rattle.hld.proofs.Rising.{Rises, above-in, above-of, rises-same, from-in, from-rises, keep-rises, keep-places, nodup-at}
 
 -- what stands in a mapped list
 pub map-in : (f : ℕ → ℕ) (l : List ℕ) (y : ℕ) → In y (map f l) → (x : ℕ) × In x l × (f x ≡ y)

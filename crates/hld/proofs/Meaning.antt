@@ -1,22 +1,21 @@
 -- What the contract of `try_hld` says: it determines the code, all six tables and all of work.
-use Prim.Native.Nat.{ℕ, _+_, _≤_, _<_}
+use Prim.Native.Nat.{ℕ, _<_}
 use native.Mathlib.Omega.{arith}
 use native.Mathlib.Decide.{ℕ-discrete}
-use mathlib.Core.Path.{_≡_, refl, sym, ap, _∙_, subst}
-use mathlib.Core.Logic.{_≢_, by-cases}
+use mathlib.Core.Path.{_≡_, refl, sym, ap, _∙_}
+use mathlib.Core.Logic.{by-cases}
 use mathlib.Core.List.{List}
 use lib.ListN.{length}
 use lib.Seq.{ext-getD}
 use Rattle.sums.specs.Sum.{at}
 use Rattle.sums.proofs.Sums.{equal-or-not}
-use Rattle.paths.specs.Rooted.{Spans}
 use Rattle.graph.specs.Codes.{done}
-use Rattle.graph.specs.Lent.{vertices, listOf}
+use Rattle.graph.specs.Lent.{vertices}
 use Rattle.graph.proofs.Judging.{first-one, leaves-one, sized?}
 use Rattle.numbering.specs.Ruled.{Ruled}
 use Rattle.numbering.proofs.SameTree.{same-dep, same-par}
 use Rattle.numbering.proofs.Same.{same-size, same-id, same-head, same-order}
-use Rattle.tables.specs.Tables.{Six, Long, NumberingOf, kidsByRuleOne, TablesOf}
+use Rattle.tables.specs.Tables.{Six, Long, NumberingOf, kidsByRuleOne}
 use Rattle.hld.specs.Build.{Fits, building, Builds}
 
 -- the tables number the tree by rule 1

@@ -2,13 +2,13 @@
 use Prim.Native.Nat.{ℕ, zero, suc, _+_, _-_, _≤_, _<_}
 use native.Mathlib.Omega.{arith}
 use mathlib.Core.Path.{_≡_, refl, sym, ap, ap₂, _∙_, subst}
-use mathlib.Core.Logic.{_≢_, _⊎_, inl, inr, ⊎-elim, _↔_}
-use mathlib.Core.Bool.{Bool, true, false, true≢false}
+use mathlib.Core.Logic.{_⊎_, inl, inr, ⊎-elim, _↔_}
+use mathlib.Core.Bool.{Bool, true, false}
 use mathlib.Core.List.{List, [], _∷_, map}
 use lib.ListN.{length}
 use Rattle.sums.specs.Sum.{at}
 use Rattle.sums.proofs.Sums.{equal-or-not}
-use Rattle.paths.specs.Walk.{In, Out, NoDup}
+use Rattle.paths.specs.Walk.{In, NoDup}
 use Rattle.paths.proofs.Listed.{out-not}
 use Rattle.numbering.specs.RuleOne.{keep}
 use Rattle.numbering.proofs.Kept.{keep-in, keep-true, keep-false}

@@ -1,15 +1,12 @@
 -- A visit that met every vertex, its positions weighed and ranked, and the tables that hold this by vertex: a numbering by rule 1.
-use Prim.Native.Nat.{ℕ, zero, suc, _+_, _-_, _≤_, _<_}
+use Prim.Native.Nat.{ℕ, suc, _+_, _-_, _≤_, _<_}
 use native.Mathlib.Omega.{arith}
-use mathlib.Core.Path.{_≡_, refl, sym, ap, ap₂, _∙_, subst}
-use mathlib.Core.Logic.{_≢_, _⊎_, inl, inr, ⊎-elim, _↔_}
-use mathlib.Core.List.{List, [], _∷_, map, reverse}
-use lib.ListN.{length}
-use Rattle.sums.specs.Sum.{at}
+use mathlib.Core.Path.{_≡_, sym, ap, _∙_, subst}
+use mathlib.Core.List.{List, [], _∷_, map}
 use Rattle.sums.proofs.Sums.{equal-or-not}
 use Rattle.paths.specs.Walk.{In, Stands, NoDup, Below}
 use Rattle.paths.specs.Tree.{Tree}
-use Rattle.paths.specs.Rooted.{Rooted, Child, Spans}
+use Rattle.paths.specs.Rooted.{Rooted, Spans}
 use Rattle.paths.proofs.Listed.{in-below}
 use Rattle.paths.proofs.Links.{tree-span}
 use Rattle.numbering.specs.Numbering.{total, Numbered, Arranged, Arrangement}
@@ -17,10 +14,10 @@ use Rattle.numbering.specs.RuleOne.{heaviest, without, childrenOf, byRuleOne}
 use Rattle.numbering.proofs.Kept.{keep-once, children-in, without-total}
 use Rattle.numbering.proofs.Heaviest.{heaviest-in}
 use Rattle.numbering.proofs.ByRule.{HeadsBy, by-rule-in, by-rule-arranged}
-use Rattle.passes.specs.Passes.{run, heavyOf, lights, Backwards, Weighed, Ranked}
+use Rattle.passes.specs.Passes.{run, heavyOf, Backwards, Weighed, Ranked}
 use Rattle.visit.specs.Visit.{Visited}
 use Rattle.visit.proofs.Positions.{Places}
-use Rattle.hld.proofs.Rising.{Rises, Above, above-in}
+use Rattle.hld.proofs.Rising.{Rises, above-in}
 use Rattle.hld.proofs.Children.{Reads, run-in, run-rises, children-run, map-in}
 use Rattle.hld.proofs.Carried.{by-rule-map, heaviest-map, total-map, numbered-map, backwards-numbered}
 

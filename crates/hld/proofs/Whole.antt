@@ -1,23 +1,22 @@
 -- The build from its tests to its answer.
-use Prim.Native.Nat.{ℕ, _+_, _-_, _*_, _≤_, _<_, _^_}
+use Prim.Native.Nat.{ℕ, _-_, _*_, _≤_, _<_, _^_}
 use native.Mathlib.Omega.{arith}
-use mathlib.Core.Path.{_≡_, refl, sym, ap, _∙_, subst}
+use mathlib.Core.Path.{_≡_, refl, subst}
 use mathlib.Core.Logic.{_≢_, inl, inr}
-use mathlib.Core.Bool.{Bool, true, false, not}
 use mathlib.Core.List.{List}
 use lib.ListN.{length}
 use Rattle.paths.specs.Walk.{Below}
 use Rattle.paths.specs.Tree.{Tree}
 use Rattle.graph.specs.Codes.{done, badSize, noRoom}
-use Rattle.graph.specs.Judgement.{First, Decides}
-use Rattle.graph.specs.Lent.{vertices, listOf, Offsets, Targets}
-use Rattle.graph.specs.Validation.{Sized, roomOf, graphTests}
-use Rattle.graph.specs.Work.{Only, Zeroed}
+use Rattle.graph.specs.Judgement.{First}
+use Rattle.graph.specs.Lent.{vertices, listOf}
+use Rattle.graph.specs.Validation.{roomOf, graphTests}
+use Rattle.graph.specs.Work.{Zeroed}
 use Rattle.graph.proofs.Frames.{only-trans, only-wider, zeroed-cleared}
-use Rattle.graph.proofs.Limits.{vertices-small, targets-small}
+use Rattle.graph.proofs.Limits.{vertices-small}
 use Rattle.graph.proofs.Neighbours.{list-below}
-use Rattle.validate.specs.Judged.{JudgeAsks, VisitIn, Judged}
-use Rattle.tables.specs.Tables.{Six, Long, TablesOf}
+use Rattle.validate.specs.Judged.{JudgeAsks, Judged}
+use Rattle.tables.specs.Tables.{Six}
 use Rattle.passes.specs.Passes.{WeighAsks, WeighAnswers, NumberAsks, NumberAnswers}
 use Rattle.hld.specs.Scatter.{ScatterAsks, Filled}
 use Rattle.hld.specs.Build.{Fits, Builds}

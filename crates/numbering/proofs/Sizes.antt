@@ -1,5 +1,5 @@
 -- The numbers are those below n, each once, and a size is the number of vertices in a subtree.
-use Prim.Native.Nat.{ℕ, zero, suc, _+_, _-_, _≤_, _<_}
+use Prim.Native.Nat.{ℕ, _+_, _-_, _≤_, _<_}
 use native.Mathlib.Omega.{arith}
 use native.Mathlib.Decide.{ℕ-discrete}
 use mathlib.Core.Path.{_≡_, refl, sym, ap, subst, _∙_}
@@ -9,12 +9,11 @@ use mathlib.Core.List.{List}
 use lib.Dec.{eqb}
 use Rattle.sums.specs.Sum.{tally, sum, howMany}
 use Rattle.sums.proofs.Sums.{tally-same, tally-other, sum-ext, sum-swap, sum-once, sum-none, sum-ones, sum-pick}
-use Rattle.sums.proofs.Pigeon.{injective-le, injective-onto, onto-le}
+use Rattle.sums.proofs.Pigeon.{injective-onto}
 use Rattle.paths.specs.Rooted.{Anc}
-use Rattle.paths.proofs.Above.{root-anc}
 use Rattle.numbering.specs.Numbering.{Numbering}
-use Rattle.numbering.proofs.Subtrees.{id-injective, anc-inside, anc-interval}
-use Rattle.numbering.proofs.Whole.{root-size, interval-below, id-below}
+use Rattle.numbering.proofs.Subtrees.{id-injective, anc-interval}
+use Rattle.numbering.proofs.Whole.{interval-below, id-below}
 
 module _ {n root : ℕ} {par dep head id order size : ℕ → ℕ} {kids : ℕ → List ℕ} (N : Numbering n root par dep head id order size kids) where
   -- each number below n is the number of the vertex that `order` gives

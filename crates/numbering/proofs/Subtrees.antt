@@ -1,7 +1,7 @@
 -- The subtree of a vertex is an interval of numbers: the ancestors of a vertex are the vertices whose interval holds its number.
 use Prim.Native.Nat.{ℕ, _+_, _≤_, _<_}
 use native.Mathlib.Omega.{arith}
-use mathlib.Core.Path.{_≡_, refl, sym, ap, subst, _∙_}
+use mathlib.Core.Path.{_≡_, refl, sym, ap, subst}
 use mathlib.Core.Logic.{_⊎_, inl, inr, ⊎-elim, _↔_}
 use mathlib.Core.List.{List}
 use Rattle.sums.proofs.Pigeon.{Injective}

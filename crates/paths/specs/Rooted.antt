@@ -2,7 +2,6 @@
 use Prim.Native.Nat.{ℕ, zero, suc, _+_, _<_}
 use mathlib.Core.Path.{_≡_}
 use mathlib.Core.Logic.{_⊎_}
-use mathlib.Core.List.{List, [], _∷_}
 
 -- the root alone has depth 0; the parent of any other vertex is one less deep
 pub record Rooted (n root : ℕ) (par dep : ℕ → ℕ) : Type 0 where

@@ -15,7 +15,7 @@ use Rattle.ranges.specs.declared.kinds.Direction.the-variants.{Forward, 
 use Rattle.ranges.specs.declared.kinds.PathRange.{PathRange}
 use Rattle.ranges.specs.declared.kinds.Kind.{Kind}
 use Rattle.ranges.specs.declared.kinds.Kind.the-variants.{Vertices, Edges, Both}
-use Rattle.ranges.specs.Ranges.{range, chainRange, lastRange, lastChain}
+use Rattle.ranges.specs.Ranges.{chainRange, lastRange, lastChain}
 use Rattle.ranges.specs.Inner.{Numbers, Ends, Small}
 
 pub chain-small : (kind : Kind) (l r : ℕ) (d : Direction) → Numbers l r → Small (chainRange kind l r d)

@@ -1,64 +1,59 @@
--- Laws of rule parts: empty where a test fails, and else the part of the one store or of the other.
+-- Laws of rule parts: empty where the range names none, and else the part of the one store or of the other.
 use Prim.Native.Nat.{ℕ, _-_, _≤_, _<_}
 use native.Mathlib.Omega.{arith}
 use mathlib.Core.Path.{_≡_, sym, ap, _∙_}
+use mathlib.Core.Bool.{Bool, true, false}
 use mathlib.Core.List.{List, []}
+use lib.Dec.{eqb, leb, ltb}
 use lib.ListN.{length, take, drop}
-use borrow.Author.Tests.{le-leb, lt-leb, lt-ltb, le-ltb, eq-eqb, ne-eqb}
+use borrow.Author.Tests.{ltb-true, leb-true, eqb-true}
+use Rattle.climb.specs.Choice.{both}
+use Rattle.climb.proofs.Choices.{both-true}
 use Rattle.ranges.specs.declared.kinds.Direction.{Direction}
 use Rattle.ranges.specs.declared.kinds.Direction.the-variants.{Forward, Reversed}
-use Rattle.ranges.specs.Parts.{maxStore, partIn, rulePart}
+use Rattle.ranges.specs.Parts.{maxStore, named?, partIn, rulePart}
+
+-- a range of two stores of m and k entries
+pub record Named (m k l r : ℕ) : Type 0 where
+  pub even : k ≡ m
+  pub some : l < r
+  pub within : r ≤ m
+
+-- of five tests that are all passed, the last three
+last-three : (a b c d e : Bool) → both a (both b (both c (both d e))) ≡ true → (c ≡ true) × (d ≡ true) × (e ≡ true)
+last-three a b c d e t =
+    let behind-first = both-true a (both b (both c (both d e))) t .1 in
+    let behind-second = both-true b (both c (both d e)) behind-first .1 in
+    let third = both-true c (both d e) behind-second in
+    let rest = both-true d e (third .1) in
+    (third .0, rest .0, rest .1)
+
+pub named-means : (m k l r : ℕ) → named? m k l r ≡ true → Named m k l r
+named-means m k l r e =
+    let t = last-three (leb 1 m) (leb m maxStore) (eqb k m) (ltb l r) (leb r m) e in record {
+      even = eqb-true k m (t .0);
+      some = ltb-true l r (t .1);
+      within = leb-true r m (t .2);
+    }
 
 module _ (first second : List ℕ) (l r : ℕ) (d : Direction) where
-  pub part-of-none : length first < 1 → rulePart first second l r d ≡ []
+  pub part-of-none : named? (length first) (length second) l r ≡ false → rulePart first second l r d ≡ []
   unfolding rulePart
-  part-of-none h = rw (lt-leb 1 (length first) h)
+  part-of-none e = rw (rulePart, e)
 
-  module _ (some : 1 ≤ length first) where
-    pub part-of-many : maxStore < length first → rulePart first second l r d ≡ []
-    unfolding rulePart
-    part-of-many h = rw (le-leb 1 (length first) some, lt-leb (length first) maxStore h)
+  pub part-within : named? (length first) (length second) l r ≡ true → rulePart first second l r d ≡ partIn d first second l r
+  unfolding rulePart
+  part-within e = rw (rulePart, e)
 
-    module _ (few : length first ≤ maxStore) where
-      pub part-of-uneven : (length second ≡ length first → ⊥) → rulePart first second l r d ≡ []
-      unfolding rulePart
-      part-of-uneven h = rw (le-leb 1 (length first) some, le-leb (length first) maxStore few, ne-eqb (length second) (length first) h)
+  pub part-forward : named? (length first) (length second) l r ≡ true → d ≡ Forward → take (r - l) (drop l first) ≡ rulePart first second l r d
+  part-forward e f = sym (part-within e ∙ ap (λ (x : Direction). partIn x first second l r) f)
 
-      module _ (even : length second ≡ length first) where
-        pub part-turned : r ≤ l → rulePart first second l r d ≡ []
-        unfolding rulePart
-        part-turned h =
-            rw (le-leb 1 (length first) some, le-leb (length first) maxStore few, eq-eqb (length second) (length first) even, le-ltb l r h)
-
-        module _ (order : l < r) where
-          pub part-past : length first < r → rulePart first second l r d ≡ []
-          unfolding rulePart
-          part-past h =
-              rw (
-                le-leb 1 (length first) some,
-                le-leb (length first) maxStore few,
-                eq-eqb (length second) (length first) even,
-                lt-ltb l r order,
-                lt-leb r (length first) h,
-              )
-
-          part-within : r ≤ length first → rulePart first second l r d ≡ partIn d first second l r
-          unfolding rulePart
-          part-within h =
-              rw (
-                le-leb 1 (length first) some,
-                le-leb (length first) maxStore few,
-                eq-eqb (length second) (length first) even,
-                lt-ltb l r order,
-                le-leb r (length first) h,
-              )
-
-          pub part-forward : r ≤ length first → d ≡ Forward → take (r - l) (drop l first) ≡ rulePart first second l r d
-          part-forward h e = sym (part-within h ∙ ap (λ (x : Direction). partIn x first second l r) e)
-
-          pub part-reversed : r ≤ length first → d ≡ Reversed
-              → take (length first - l - (length first - r)) (drop (length first - r) second) ≡ rulePart first second l r d
-          part-reversed h e =
-              let k : length first - l - (length first - r) ≡ r - l = omega arith in
-              ap (λ (x : ℕ). take x (drop (length first - r) second)) k
-              ∙ sym (part-within h ∙ ap (λ (x : Direction). partIn x first second l r) e)
+  pub part-reversed : named? (length first) (length second) l r ≡ true → d ≡ Reversed
+      → take (length first - l - (length first - r)) (drop (length first - r) second) ≡ rulePart first second l r d
+  part-reversed e f =
+      let n = named-means (length first) (length second) l r e in
+      let a = n .some in
+      let b = n .within in
+      let k : length first - l - (length first - r) ≡ r - l = omega arith in
+      ap (λ (x : ℕ). take x (drop (length first - r) second)) k
+      ∙ sym (part-within e ∙ ap (λ (x : Direction). partIn x first second l r) f)

@@ -1,7 +1,5 @@
 -- What the calls for ranges answer, and what they leave in the lent list.
-use Prim.Native.Nat.{ℕ, _+_, _*_, _≤_}
-use mathlib.Core.Path.{_≡_}
-use mathlib.Core.Bool.{Bool, true, false}
+use Prim.Native.Nat.{ℕ, _+_, _*_}
 use mathlib.Core.List.{List, [], _∷_, _++_}
 use lib.Dec.{leb}
 use lib.ListN.{length, drop}
@@ -10,6 +8,7 @@ use Rattle.numbering.specs.Log.{log2}
 use Rattle.tables.specs.Tables.{Six}
 use Rattle.climb.specs.Choice.{pick, both}
 use Rattle.climb.specs.Queries.{sizeOf, asked}
+use Rattle.climb.specs.Answers.{refusalCode}
 use Rattle.climb.specs.declared.answers.Refusal.{Refusal}
 use Rattle.climb.specs.declared.answers.Refusal.the-variants.{BadSize, NoRoom, BadTable}
 use Rattle.climb.specs.declared.answers.Answer.{Answer}
@@ -52,6 +51,15 @@ roomAnswer (listed l) room = pick (leb (3 * length l) room) (Count (length l)) (
 abbrev pub roomList : Answered → List ℕ → List ℕ
 roomList (refused x) lent = lent
 roomList (listed l) lent = pick (leb (3 * length l) (length lent)) (flat l ++ drop (3 * length l) lent) lent
+
+-- the number and the values that an answer stands for
+abbrev pub listedCode : Listed → ℕ
+listedCode (Count k) = 0
+listedCode (Refused x) = refusalCode x
+
+abbrev pub listedValues : Listed → List ℕ
+listedValues (Count k) = k ∷ []
+listedValues (Refused x) = []
 
 -- "Range room: 2·floor(log2 n)+1 is always enough, and a call returns that number for n from 1 to 32,768, else refusal 1."
 abbrev pub rangeRoom : ℕ → Answer

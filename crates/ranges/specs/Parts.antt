@@ -1,11 +1,10 @@
 -- 01, "Rule parts (added)": "two lent stores of 1 to 32,768 entries of equal length m .. For a range l < r ≤ m the call returns the part [l,r) of the
 -- first if Forward, [m−r, m−l) of the second if Reversed, and otherwise an empty part."
-use Prim.Native.Nat.{ℕ, _+_, _-_, _*_}
-use mathlib.Core.Bool.{Bool, true, false}
+use Prim.Native.Nat.{ℕ, _-_}
+use mathlib.Core.Bool.{Bool}
 use mathlib.Core.List.{List, []}
 use lib.Dec.{eqb, leb, ltb}
 use lib.ListN.{length, take, drop}
-use Rattle.graph.specs.Limits.{maxVertices}
 use Rattle.climb.specs.Choice.{pick, both}
 use Rattle.ranges.specs.declared.kinds.Direction.{Direction}
 use Rattle.ranges.specs.declared.kinds.Direction.the-variants.{Forward, Reversed}
@@ -18,10 +17,9 @@ abbrev pub partIn : Direction → List ℕ → List ℕ → ℕ → ℕ → List
 partIn Forward first second l r = take (r - l) (drop l first)
 partIn Reversed first second l r = take (r - l) (drop (length first - r) second)
 
+-- the stores, of m and k entries, are of equal length and within the limit, and [l, r) is a range of theirs
+abbrev pub named? : (m k l r : ℕ) → Bool
+named? m k l r = both (leb 1 m) (both (leb m maxStore) (both (eqb k m) (both (ltb l r) (leb r m))))
+
 unfoldable pub rulePart : List ℕ → List ℕ → ℕ → ℕ → Direction → List ℕ
-rulePart first second l r d =
-    pick (leb 1 (length first))
-    (pick (leb (length first) maxStore)
-    (pick (eqb (length second) (length first)) (pick (ltb l r) (pick (leb r (length first)) (partIn d first second l r) []) []) [])
-    [])
-    []
+rulePart first second l r d = pick (named? (length first) (length second) l r) (partIn d first second l r) []

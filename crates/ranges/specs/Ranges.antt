@@ -1,6 +1,6 @@
 -- 01, "Definitions": the ranges of the path from u to v, on any tables.
 use Prim.Native.Nat.{ℕ, zero, suc, _+_, _-_, _*_}
-use mathlib.Core.Bool.{Bool, true, false}
+use mathlib.Core.Bool.{true, false}
 use mathlib.Core.List.{List, [], _∷_, _++_}
 use lib.Dec.{eqb, leb, ltb}
 use Rattle.numbering.specs.Log.{log2}
@@ -8,7 +8,6 @@ use Rattle.tables.specs.Tables.{Six}
 use Rattle.climb.specs.Choice.{pick}
 use Rattle.climb.specs.Sound.{standOn}
 use Rattle.climb.specs.Climbing.{leaveChain, uMoved, vMoved, climbStart}
-use Rattle.climb.specs.declared.places.Place.{Place}
 use Rattle.climb.specs.declared.places.Climb.{Climb}
 use Rattle.climb.specs.declared.places.Stood.the-variants.{On, Unsound}
 use Rattle.ranges.specs.declared.kinds.Direction.{Direction}

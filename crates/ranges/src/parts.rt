@@ -2,7 +2,7 @@
 use crate::kinds::Direction;
 ghost use mathlib.Core.Path.{_≡_};
 ghost use mathlib.Core.List.{[]};
-ghost use Rattle.ranges.specs.Parts.{rulePart};
+ghost use Rattle.ranges.specs.Parts.{named?, rulePart};
 
 // The most entries that a store may have.
 pub const MAX_STORE: usize = 32_768;
@@ -12,6 +12,25 @@ fn empty(store: &[u32]) -> &[u32]
     ensures { λ r. ⌜ now r ≡ [] ⌝ }
 {
     &store[..0]
+}
+
+// Whether two stores of m and k entries are a pair, and the numbers from start up to end a range of theirs.
+pub fn names_part(m: usize, k: usize, start: usize, end: usize) -> bool
+    ensures { λ r. ⌜ r ≡ named? m k start end ⌝ }
+{
+    if m < 1 {
+        return false;
+    }
+    if MAX_STORE < m {
+        return false;
+    }
+    if k != m {
+        return false;
+    }
+    if end <= start {
+        return false;
+    }
+    end <= m
 }
 
 // The numbers from start up to end of the first store if Forward, of the second, which is the first turned round, if Reversed; empty where the
@@ -25,19 +44,7 @@ pub fn rule_part<'a>(
 ) -> &'a [u32]
     ensures { λ r. ⌜ now r ≡ rulePart (now (first .entry)) (now (second .entry)) start end direction ⌝ }
 {
-    if first.len() < 1 {
-        return empty(first);
-    }
-    if MAX_STORE < first.len() {
-        return empty(first);
-    }
-    if second.len() != first.len() {
-        return empty(first);
-    }
-    if end <= start {
-        return empty(first);
-    }
-    if first.len() < end {
+    if !names_part(first.len(), second.len(), start, end) {
         return empty(first);
     }
     if let Direction::Forward = direction {

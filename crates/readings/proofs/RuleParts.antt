@@ -15,7 +15,7 @@ use Rattle.tables.specs.Tables.{Six}
 use Rattle.pathlaws.specs.Given.{Given, pathIn}
 use Rattle.ranges.specs.Ranges.{found, pathRanges}
 use Rattle.ranges.specs.Readings.{rising, readIn, readRange, reading}
-use Rattle.ranges.specs.Parts.{maxStore, partIn, rulePart}
+use Rattle.ranges.specs.Parts.{maxStore, named?, partIn, rulePart}
 use Rattle.ranges.specs.declared.kinds.Direction.{Direction}
 use Rattle.ranges.specs.declared.kinds.Direction.the-variants.{Forward, Reversed}
 use Rattle.ranges.specs.declared.kinds.PathRange.{PathRange}
@@ -69,6 +69,7 @@ unfolding rulePart
 rule-part-reads s r m h i =
     rw (
       rulePart,
+      named?,
       le-leb 1 (length s) (omega arith),
       le-leb (length s) maxStore m,
       eq-eqb (length (reverse s)) (length s) (length-reverse s),

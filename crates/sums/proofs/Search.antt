@@ -1,7 +1,7 @@
 -- A property that can be told of each number below n holds of all, or fails at one.
 use Prim.Native.Nat.{ℕ, zero, suc, _<_}
 use native.Mathlib.Omega.{arith}
-use mathlib.Core.Path.{_≡_, sym, subst}
+use mathlib.Core.Path.{sym, subst}
 use mathlib.Core.Logic.{_⊎_, inl, inr}
 use Rattle.sums.proofs.Sums.{equal-or-not}
 

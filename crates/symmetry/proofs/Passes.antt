@@ -7,7 +7,7 @@ use mathlib.Core.Logic.{_≢_, _⊎_, inl, inr, by-cases}
 use lib.Dec.{eqb}
 use Rattle.sums.specs.Sum.{tally, sum}
 use Rattle.sums.proofs.Sums.{equal-or-not, tally-same, tally-other, sum-none, sum-change, sum-tight}
-use Rattle.symmetry.specs.Inner.{part, Starts, Below, Ascends, ends, Turning, Turned}
+use Rattle.symmetry.specs.Inner.{part, Starts, Below, Ascends, Turning, Turned}
 use Rattle.symmetry.proofs.Parts.{part-empty, part-ext, part-more}
 use Rattle.symmetry.proofs.Lists.{starts-rise, one-list, lengths}
 

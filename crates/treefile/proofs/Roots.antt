@@ -10,7 +10,7 @@ use borrow.Author.Tests.{le-leb, lt-leb, eq-eqb, ne-eqb}
 use Rattle.sums.specs.Sum.{at}
 use Rattle.climb.specs.Choice.{pick}
 use Rattle.treefile.specs.declared.judge.Shape.{Shape}
-use Rattle.treefile.specs.File.{Query, query?, Queries, bad, all, before, queriesIn, badFile, file, withQueries, parseRoot, maxQueries}
+use Rattle.treefile.specs.File.{Query, query?, Queries, bad, all, before, queriesIn, badFile, withQueries, parseRoot, maxQueries}
 use Rattle.treefile.specs.Parsing.{shapeOf, queryNumbers}
 use Rattle.treefile.specs.Sections.{isAll}
 use Rattle.treefile.proofs.FileWords.{drop-three}

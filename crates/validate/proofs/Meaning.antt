@@ -1,9 +1,9 @@
 -- What the contract of `validate_tree` says: it determines the code and all of work, and accepts exactly the trees.
-use Prim.Native.Nat.{ℕ, _+_, _≤_, _<_}
+use Prim.Native.Nat.{ℕ, _≤_, _<_}
 use native.Mathlib.Omega.{arith}
-use mathlib.Core.Path.{_≡_, refl, sym, ap, _∙_}
+use mathlib.Core.Path.{_≡_, refl}
 use mathlib.Core.Logic.{_≢_, _⊎_, inl, inr, _↔_}
-use mathlib.Core.List.{List, [], _∷_}
+use mathlib.Core.List.{List}
 use lib.ListN.{length}
 use Rattle.sums.specs.Sum.{count}
 use Rattle.sums.proofs.Sums.{equal-or-not}
@@ -12,7 +12,7 @@ use Rattle.paths.specs.Tree.{Symmetric, AllReached, Tree}
 use Rattle.graph.specs.Codes.{done}
 use Rattle.graph.specs.Judgement.{First}
 use Rattle.graph.specs.Lent.{vertices, listOf, Offsets, Targets}
-use Rattle.graph.specs.Validation.{Sized, roomOf, graphTests, validation, Validates}
+use Rattle.graph.specs.Validation.{Sized, roomOf, validation, Validates}
 use Rattle.graph.proofs.Judging.{first-one, leaves-one, sized?}
 
 -- two results that the contract allows coincide: the code, and all of work

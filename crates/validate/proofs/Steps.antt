@@ -1,18 +1,17 @@
 -- The tests 3 to 8 one after the other: what each asks and what its answer gives.
-use Prim.Native.Nat.{ℕ, _+_, _-_, _*_, _≤_, _<_, _^_}
+use Prim.Native.Nat.{ℕ, _-_, _*_, _≤_, _<_, _^_}
 use native.Mathlib.Omega.{arith}
-use mathlib.Core.Path.{_≡_, refl, sym, ap, _∙_, subst, subst₂}
+use mathlib.Core.Path.{_≡_, refl, sym, _∙_, subst}
 use mathlib.Core.Logic.{_≢_, inl, inr}
 use mathlib.Core.Bool.{Bool, true, false, not}
 use mathlib.Core.List.{List}
 use lib.ListN.{length}
 use borrow.Author.Tests.{not-true, not-false}
-use Rattle.sums.specs.Sum.{at}
-use Rattle.paths.specs.Tree.{Symmetric, AllReached, Tree}
+use Rattle.paths.specs.Tree.{Symmetric, AllReached}
 use Rattle.graph.specs.Codes.{done, badSize, noRoom, badOffsets, badVertex, badRoot, notSymmetric, disconnected, hasCycle}
 use Rattle.graph.specs.Judgement.{First}
 use Rattle.graph.specs.Lent.{vertices, listOf, Offsets, Targets}
-use Rattle.graph.specs.Validation.{Sized, roomOf, graphTests, Leaves, Validates}
+use Rattle.graph.specs.Validation.{Sized, roomOf, graphTests, Validates}
 use Rattle.graph.specs.Work.{Only, Zeroed}
 use Rattle.graph.proofs.Frames.{only-refl, only-trans, only-wider, zeroed-cleared}
 use Rattle.graph.proofs.Limits.{vertices-small, targets-small}
@@ -22,7 +21,7 @@ use Rattle.visit.specs.Visit as visiting
 use Rattle.visit.specs.Visit.{Visited, queueIn, upIn}
 use Rattle.visit.proofs.Positions.{places, visit-rooted, visit-held, visit-reaches, visit-few, visit-all}
 use Rattle.visit.proofs.Edges.{tree-entries, entries-tree}
-use Rattle.validate.specs.Judged.{JudgeAsks, VisitIn, Judged}
+use Rattle.validate.specs.Judged.{JudgeAsks, Judged}
 
 module _ (os ts : List ℕ) (root : ℕ) (w : List ℕ) (a : JudgeAsks os ts w) where
   small : vertices os < 2 ^ 31

@@ -1,12 +1,11 @@
 -- Symmetric lists whose vertices are all reached are a tree exactly if they have 2 (n - 1) entries.
-use Prim.Native.Nat.{ℕ, zero, suc, _+_, _-_, _*_, _≤_, _<_}
+use Prim.Native.Nat.{ℕ, _-_, _*_, _≤_, _<_}
 use native.Mathlib.Omega.{arith}
-use native.Mathlib.Decide.{decLe}
-use mathlib.Core.Path.{_≡_, refl, sym, ap, _∙_, subst}
-use mathlib.Core.Logic.{_⊎_, inl, inr, ⊎-elim, by-cases}
-use mathlib.Core.List.{List, [], _∷_}
+use mathlib.Core.Path.{_≡_, sym, _∙_, subst}
+use mathlib.Core.Logic.{_⊎_, ⊎-elim, by-cases}
+use mathlib.Core.List.{List}
 use lib.ListN.{length}
-use Rattle.sums.specs.Sum.{at, sum, count}
+use Rattle.sums.specs.Sum.{sum, count}
 use Rattle.sums.proofs.Sums.{sum-ext, sum-mono, sum-tight}
 use Rattle.paths.specs.Walk.{In, Below}
 use Rattle.paths.specs.Tree.{Symmetric, Tree}

@@ -1,19 +1,19 @@
 -- The visit from its start to its end: the root is met with no mark set, and then each position in turn.
-use Prim.Native.Nat.{ℕ, zero, suc, _+_, _*_, _≤_, _<_, _/_, _%_, _^_}
+use Prim.Native.Nat.{ℕ, zero, _+_, _*_, _≤_, _<_, _/_, _%_, _^_}
 use native.Mathlib.Omega.{arith}
 use native.Mathlib.Nat.{zero-div}
-use mathlib.Core.Path.{_≡_, refl, sym, ap, _∙_, subst, subst₂}
+use mathlib.Core.Path.{_≡_, sym, ap, _∙_, subst, subst₂}
 use mathlib.Core.Logic.{_≢_}
 use mathlib.Core.List.{List}
 use lib.ListN.{length}
 use Rattle.sums.specs.Sum.{at}
-use Rattle.graph.specs.Lent.{vertices, listOf, Offsets, Targets}
+use Rattle.graph.specs.Lent.{listOf}
 use Rattle.graph.specs.Work.{Only, Zeroed}
-use Rattle.graph.specs.Marks.{markOf, Marks}
+use Rattle.graph.specs.Marks.{markOf}
 use Rattle.graph.proofs.Frames.{only-refl, only-trans, only-wider}
-use Rattle.visit.specs.Visit.{queueIn, upIn, Visited, Asks, Answers}
-use Rattle.visit.specs.Steps.{Seen, SeenIn, Meets, queued, Met, old, new, ListAsks, ListAnswers}
-use Rattle.visit.proofs.Growing.{seen-start, seen-next, seen-done, few}
+use Rattle.visit.specs.Visit.{Asks, Answers}
+use Rattle.visit.specs.Steps.{SeenIn, Meets, Met, old, new, ListAsks, ListAnswers}
+use Rattle.visit.proofs.Growing.{seen-start, seen-next, seen-done}
 use Rattle.visit.proofs.Looking.{new-queue, new-marks, new-only, entries}
 
 -- no mark is set

@@ -1,5 +1,5 @@
 -- How a visit under way goes on: at its start, past an entry that was met before, past a new one, to the next position, and at its end.
-use Prim.Native.Nat.{ℕ, zero, suc, _+_, _*_, _≤_, _<_}
+use Prim.Native.Nat.{ℕ, _+_, _≤_, _<_}
 use native.Mathlib.Omega.{arith}
 use mathlib.Core.Path.{_≡_, refl, sym, ap, _∙_, subst}
 use mathlib.Core.Logic.{_≢_}
@@ -10,7 +10,7 @@ use lib.ListN.{length}
 use borrow.Author.Tests.{eq-eqb, ne-eqb}
 use Rattle.sums.specs.Sum.{at}
 use Rattle.sums.proofs.Sums.{equal-or-not, up-to}
-use Rattle.sums.proofs.Pigeon.{Injective, Maps, injective-le}
+use Rattle.sums.proofs.Pigeon.{Injective, injective-le}
 use Rattle.visit.specs.Visit.{Visited}
 use Rattle.visit.specs.Steps.{Seen}
 

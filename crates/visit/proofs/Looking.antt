@@ -1,5 +1,5 @@
 -- A visit in work: looking through the list of one position, and from position to position.
-use Prim.Native.Nat.{ℕ, zero, suc, _+_, _*_, _≤_, _<_, _/_, _%_, _^_}
+use Prim.Native.Nat.{ℕ, _+_, _*_, _≤_, _<_, _/_, _%_, _^_}
 use native.Mathlib.Omega.{arith}
 use mathlib.Core.Path.{_≡_, refl, sym, ap, _∙_, subst, subst₂}
 use mathlib.Core.Logic.{_≢_}
@@ -7,13 +7,13 @@ use mathlib.Core.List.{List}
 use lib.ListN.{length, set, length-set}
 use Rattle.sums.specs.Sum.{at}
 use Rattle.graph.specs.Lent.{vertices, listOf, Offsets, Targets}
-use Rattle.graph.specs.Work.{Only, Zeroed}
+use Rattle.graph.specs.Work.{Only}
 use Rattle.graph.specs.Marks.{markOf, Marks}
-use Rattle.graph.proofs.Frames.{only-refl, only-trans, only-set, at-set-same, at-set-other}
+use Rattle.graph.proofs.Frames.{only-refl, only-trans, at-set-same, at-set-other}
 use Rattle.graph.proofs.Neighbours.{entry-below}
-use Rattle.visit.specs.Visit.{queueIn, upIn, Visited, Asks, Answers}
-use Rattle.visit.specs.Steps.{Seen, SeenIn, Meets, queued, Met, old, new, ListAsks, ListAnswers}
-use Rattle.visit.proofs.Growing.{Grown, upd, seen-start, seen-old, seen-new, seen-next, seen-done, fresh-room, few}
+use Rattle.visit.specs.Visit.{queueIn, upIn}
+use Rattle.visit.specs.Steps.{SeenIn, Meets, queued, Met, old, new, ListAsks, ListAnswers}
+use Rattle.visit.proofs.Growing.{Grown, upd, seen-old, seen-new, fresh-room, few}
 
 -- the list of position i is looked through: k of its entries so far, with work w₀ at its start
 pub record Looking (os ts : List ℕ) (n base i : ℕ) (w₀ w : List ℕ) (k t : ℕ) : Type 0 where

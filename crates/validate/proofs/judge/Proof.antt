@@ -1,7 +1,6 @@
 use borrow.Author.Needs.{needs}
 use Rattle.validate.proofs.judge.Statement.{statement}
 use Rattle.validate.proofs.judge.Tie as tie
-use native.Mathlib.Omega.{arith}
 use Rattle.graph.proofs.Judging.{passed, failed}
 use Rattle.validate.proofs.Steps.{bad-offsets, bad-vertex, bad-root, symmetric-asks, not-symmetric, visit-asks, not-reached, has-cycle, is-tree}
 

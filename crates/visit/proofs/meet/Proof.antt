@@ -2,11 +2,10 @@ use borrow.Author.Needs.{needs}
 use Rattle.visit.proofs.meet.Statement.{statement}
 use Rattle.visit.proofs.meet.Tie as tie
 use native.Mathlib.Omega.{arith}
-use mathlib.Core.Path.{_≡_, refl, sym, _∙_}
-use mathlib.Core.Logic.{_≢_}
+use mathlib.Core.Path.{refl, sym, _∙_}
 use borrow.Author.Tests.{eqb-true, eqb-false}
 use lib.ListN.{length-set}
-use Rattle.visit.specs.Steps.{Met, old, new}
+use Rattle.visit.specs.Steps.{old, new}
 
 mul-marked : tie.Need-mul-marked
 mul-marked c = search needs

@@ -1,7 +1,7 @@
 use Rattle.visit.proofs.meet_list.Statement.{statement}
 use Rattle.visit.proofs.meet_list.Tie as tie
 use borrow.Author.Needs.{needs}
-use Prim.Native.Nat.{ℕ, _≤_, _<_, _-_, _+_}
+use Prim.Native.Nat.{_≤_, _-_, _+_}
 use native.Mathlib.Omega.{arith}
 use lib.ListN.{length}
 use Rattle.visit.proofs.Growing.{few}

@@ -1,7 +1,7 @@
 use Rattle.graph.proofs.lists.sound_targets.Statement.{statement}
 use Rattle.graph.proofs.lists.sound_targets.Tie as tie
 use borrow.Author.Needs.{needs}
-use Prim.Native.Nat.{ℕ, _≤_, _<_, _-_, _+_}
+use Prim.Native.Nat.{ℕ, _≤_, _<_, _-_}
 use native.Mathlib.Omega.{arith}
 use lib.ListN.{length}
 use borrow.Author.Count.{below-more}

@@ -1,11 +1,10 @@
 use Rattle.graph.proofs.work.zero.Statement.{statement}
 use Rattle.graph.proofs.work.zero.Tie as tie
 use borrow.Author.Needs.{needs}
-use Prim.Native.Nat.{ℕ, _≤_, _<_, _-_}
+use Prim.Native.Nat.{ℕ, _≤_, _-_}
 use native.Mathlib.Omega.{arith}
 use mathlib.Core.Path.{subst}
-use lib.ListN.{length, length-set}
-use Rattle.graph.specs.Work.{Only, Zeroed}
+use Rattle.graph.specs.Work.{Zeroed}
 use Rattle.graph.proofs.Frames.{zeroed-none, zeroed-more}
 
 abbrev Inv-loop : tie.InvT-loop

@@ -1,6 +1,5 @@
 use Rattle.hld.proofs.build.long.Statement.{statement}
 use Rattle.hld.proofs.build.long.Tie as tie
-use borrow.Author.Needs.{needs}
 use Rattle.graph.proofs.Judging.{decides-no, decides-eqb}
 
 returns : tie.Need-returns

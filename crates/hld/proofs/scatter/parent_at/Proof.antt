@@ -1,7 +1,6 @@
 use borrow.Author.Needs.{needs}
 use Rattle.hld.proofs.scatter.parent_at.Statement.{statement}
 use Rattle.hld.proofs.scatter.parent_at.Tie as tie
-use Prim.Native.Nat.{ℕ, _+_, _*_}
 use native.Mathlib.Omega.{arith}
 use mathlib.Core.Path.{sym}
 use mir.Facts.{fits-widen}

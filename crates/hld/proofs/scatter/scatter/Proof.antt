@@ -1,7 +1,7 @@
 use Rattle.hld.proofs.scatter.scatter.Statement.{statement}
 use Rattle.hld.proofs.scatter.scatter.Tie as tie
 use borrow.Author.Needs.{needs}
-use Prim.Native.Nat.{ℕ, _≤_, _-_}
+use Prim.Native.Nat.{_≤_, _-_}
 use native.Mathlib.Omega.{arith}
 use mathlib.Core.Path.{sym, subst, _∙_}
 use Rattle.tables.specs.Tables.{six}

@@ -1,7 +1,6 @@
 use borrow.Author.Needs.{needs}
 use Rattle.hld.proofs.scatter.scatter_one.Statement.{statement}
 use Rattle.hld.proofs.scatter.scatter_one.Tie as tie
-use Prim.Native.Nat.{ℕ, _+_, _*_}
 use native.Mathlib.Omega.{arith}
 use mir.Facts.{fits-widen}
 use Rattle.hld.proofs.Filling.{parented}

@@ -1,109 +1,77 @@
--- `parts::rule_part` meets its contract: each test that fails gives the empty part, and the direction chooses the store.
+-- `parts::rule_part` meets its contract: a range that names no part gives the empty one, and the direction chooses the store.
 use borrow.Author.Needs.{needs}
-use mathlib.Core.Path.{sym, _∙_}
-use Rattle.ranges.specs.Parts.{maxStore}
-use Rattle.ranges.proofs.Parted.{part-of-none, part-of-many, part-of-uneven, part-turned, part-past, part-forward, part-reversed}
 use Rattle.ranges.proofs.parts.rule_part.Statement.{statement}
 use Rattle.ranges.proofs.parts.rule_part.Tie as tie
+use native.Mathlib.Omega.{arith}
+use mathlib.Core.Path.{sym, _∙_}
+use lib.ListN.{length}
+use borrow.Author.Tests.{not-true, not-false}
+use Rattle.ranges.proofs.Parted.{named-means, part-of-none, part-forward, part-reversed}
+
+names-part-requires : tie.Need-names-part-requires
+names-part-requires c κs = search needs
 
 empty-requires : tie.Need-empty-requires
 empty-requires c κs = search needs
 
 returns : tie.Need-returns
-returns c = c .empty .ensures ∙ sym (part-of-none _ _ _ _ _ (c .before .if1 .taken))
-
-empty-requires-2 : tie.Need-empty-requires-2
-empty-requires-2 c κs = search needs
-
-returns-2 : tie.Need-returns-2
-unfolding maxStore
-returns-2 c = c .empty2 .ensures ∙ sym (part-of-many _ _ _ _ _ (c .before .before .if1 .left) (c .before .if2 .taken))
-
-empty-requires-3 : tie.Need-empty-requires-3
-empty-requires-3 c κs = search needs
-
-returns-3 : tie.Need-returns-3
-unfolding maxStore
-returns-3 c = c .empty3 .ensures ∙ sym (part-of-uneven _ _ _ _ _ (c .before .before .before .if1 .left) (c .before .before .if2 .left) (c .before .if3 .taken))
-
-empty-requires-4 : tie.Need-empty-requires-4
-empty-requires-4 c κs = search needs
-
-returns-4 : tie.Need-returns-4
-unfolding maxStore
-returns-4 c = c .empty4 .ensures ∙ sym (part-turned _ _ _ _ _ (c .before .before .before .before .if1 .left) (c .before .before .before .if2 .left) (c .before .before .if3 .left) (c .before .if4 .taken))
-
-empty-requires-5 : tie.Need-empty-requires-5
-empty-requires-5 c κs = search needs
-
-returns-5 : tie.Need-returns-5
-unfolding maxStore
-returns-5 c = c .empty5 .ensures ∙ sym (part-past _ _ _ _ _ (c .before .before .before .before .before .if1 .left) (c .before .before .before .before .if2 .left) (c .before .before .before .if3 .left) (c .before .before .if4 .left) (c .before .if5 .taken))
+returns c = c .empty .ensures ∙ sym (part-of-none _ _ _ _ _ (sym (c .before .before .names-part .ensures) ∙ not-true _ (c .before .if1 .taken)))
 
 enum-told : tie.Need-enum-told
 enum-told c = search needs
 
 mul-result : tie.Need-mul-result
-mul-result c = search needs
+mul-result c = let n = named-means (length (c .before .before .before .before .before .before .args .first .now)) (length (c .before .before .before .before .before .before .args .second .now)) (c .before .before .before .before .before .before .args .start) (c .before .before .before .before .before .before .args .end) (sym (c .before .before .before .names-part .ensures) ∙ not-false _ (c .before .before .if1 .left)) in let a = n .some in let b = n .within in search needs
 
 sub-result : tie.Need-sub-result
-sub-result c = search needs
+sub-result c = let n = named-means (length (c .before .before .before .before .before .before .args .first .now)) (length (c .before .before .before .before .before .before .args .second .now)) (c .before .before .before .before .before .before .args .start) (c .before .before .before .before .before .before .args .end) (sym (c .before .before .before .names-part .ensures) ∙ not-false _ (c .before .before .if1 .left)) in let a = n .some in let b = n .within in omega arith
 
 part-result-start : tie.Need-part-result-start
-part-result-start c = search needs
+part-result-start c = let n = named-means (length (c .before .before .before .before .before .before .args .first .now)) (length (c .before .before .before .before .before .before .args .second .now)) (c .before .before .before .before .before .before .args .start) (c .before .before .before .before .before .before .args .end) (sym (c .before .before .before .names-part .ensures) ∙ not-false _ (c .before .before .if1 .left)) in let a = n .some in let b = n .within in omega arith
 
 part-result-end : tie.Need-part-result-end
-part-result-end c = search needs
+part-result-end c = let n = named-means (length (c .before .before .before .before .before .before .args .first .now)) (length (c .before .before .before .before .before .before .args .second .now)) (c .before .before .before .before .before .before .args .start) (c .before .before .before .before .before .before .args .end) (sym (c .before .before .before .names-part .ensures) ∙ not-false _ (c .before .before .if1 .left)) in let a = n .some in let b = n .within in omega arith
 
-returns-6 : tie.Need-returns-6
-unfolding maxStore
-returns-6 c = part-forward _ _ _ _ _ (c .before .before .before .before .before .before .before .if1 .left) (c .before .before .before .before .before .before .if2 .left) (c .before .before .before .before .before .if3 .left) (c .before .before .before .before .if4 .left) (c .before .before .before .if5 .left) (c .before .enum-told .given .1)
+returns-2 : tie.Need-returns-2
+returns-2 c = part-forward _ _ _ _ _ (sym (c .before .before .before .before .names-part .ensures) ∙ not-false _ (c .before .before .before .if1 .left)) (c .before .enum-told .given .1)
 
 enum-told-2 : tie.Need-enum-told-2
 enum-told-2 c = search needs
 
 sub-from : tie.Need-sub-from
-sub-from c = search needs
+sub-from c = let n = named-means (length (c .before .before .before .before .before .before .args .first .now)) (length (c .before .before .before .before .before .before .args .second .now)) (c .before .before .before .before .before .before .args .start) (c .before .before .before .before .before .before .args .end) (sym (c .before .before .before .names-part .ensures) ∙ not-false _ (c .before .before .if1 .left)) in let a = n .some in let b = n .within in omega arith
 
 sub-to : tie.Need-sub-to
-sub-to c = search needs
+sub-to c = let n = named-means (length (c .before .before .before .before .before .before .args .first .now)) (length (c .before .before .before .before .before .before .args .second .now)) (c .before .before .before .before .before .before .args .start) (c .before .before .before .before .before .before .args .end) (sym (c .before .before .before .names-part .ensures) ∙ not-false _ (c .before .before .if1 .left)) in let a = n .some in let b = n .within in omega arith
 
 mul-result-2 : tie.Need-mul-result-2
 mul-result-2 c = search needs
 
 sub-result-2 : tie.Need-sub-result-2
-sub-result-2 c = search needs
+sub-result-2 c = let n = named-means (length (c .before .before .before .before .before .before .args .first .now)) (length (c .before .before .before .before .before .before .args .second .now)) (c .before .before .before .before .before .before .args .start) (c .before .before .before .before .before .before .args .end) (sym (c .before .before .before .names-part .ensures) ∙ not-false _ (c .before .before .if1 .left)) in let a = n .some in let b = n .within in omega arith
 
 part-result-start-2 : tie.Need-part-result-start-2
-part-result-start-2 c = search needs
+part-result-start-2 c = let n = named-means (length (c .before .before .before .before .before .before .args .first .now)) (length (c .before .before .before .before .before .before .args .second .now)) (c .before .before .before .before .before .before .args .start) (c .before .before .before .before .before .before .args .end) (sym (c .before .before .before .names-part .ensures) ∙ not-false _ (c .before .before .if1 .left)) in let a = n .some in let b = n .within in omega arith
 
 part-result-end-2 : tie.Need-part-result-end-2
-part-result-end-2 c = search needs
+part-result-end-2 c = let n = named-means (length (c .before .before .before .before .before .before .args .first .now)) (length (c .before .before .before .before .before .before .args .second .now)) (c .before .before .before .before .before .before .args .start) (c .before .before .before .before .before .before .args .end) (sym (c .before .before .before .names-part .ensures) ∙ not-false _ (c .before .before .if1 .left)) in let a = n .some in let b = n .within in let d = n .even in omega arith
 
-returns-7 : tie.Need-returns-7
-unfolding maxStore
-returns-7 c = part-reversed _ _ _ _ _ (c .before .before .before .before .before .before .before .if1 .left) (c .before .before .before .before .before .before .if2 .left) (c .before .before .before .before .before .if3 .left) (c .before .before .before .before .if4 .left) (c .before .before .before .if5 .left) (c .before .enum-told2 .given .1)
+returns-3 : tie.Need-returns-3
+returns-3 c = part-reversed _ _ _ _ _ (sym (c .before .before .before .before .names-part .ensures) ∙ not-false _ (c .before .before .before .if1 .left)) (c .before .enum-told2 .given .1)
 
 pub rule-part-spec : {M : Type 1} → statement M
 rule-part-spec =
     tie.close
     (tie.spec
+    names-part-requires
     empty-requires
     returns
-    empty-requires-2
-    returns-2
-    empty-requires-3
-    returns-3
-    empty-requires-4
-    returns-4
-    empty-requires-5
-    returns-5
     enum-told
     mul-result
     sub-result
     part-result-start
     part-result-end
-    returns-6
+    returns-2
     enum-told-2
     sub-from
     sub-to
@@ -111,4 +79,4 @@ rule-part-spec =
     sub-result-2
     part-result-start-2
     part-result-end-2
-    returns-7)
+    returns-3)
