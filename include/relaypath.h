@@ -10,8 +10,8 @@
  * contents. Of the pointers the caller sees to it that
  *   - each is aligned and has as many entries as the length after it says,
  *     and only where that length is 0 may it be null;
- *   - an array that is written (`work`, and the tables of a build) and the number
- *     behind `answer` overlap nothing else that is lent;
+ *   - an array that is written (`work`, tables and lists) and each number that is
+ *     lent for an answer overlap nothing else that is lent;
  *   - nobody else writes the arrays, or reads those that are written, until the
  *     call returns.
  */
@@ -38,7 +38,7 @@ extern "C" {
 /* Codes. A call answers that of the first test that is not passed, in this order. */
 #define RELAYPATH_DONE 0          /* all tests are passed */
 #define RELAYPATH_BAD_SIZE 1      /* fewer than two offsets, n or E above its limit, or a table not of n entries */
-#define RELAYPATH_NO_ROOM 2       /* work has fewer than 8n + E entries */
+#define RELAYPATH_NO_ROOM 2       /* work has fewer than 8n + E entries, or a list has too few */
 #define RELAYPATH_BAD_OFFSETS 3   /* the first offset is not 0, an offset falls, or the last is not E */
 #define RELAYPATH_BAD_VERTEX 4    /* a target, or a vertex argument of a query, is n or more */
 #define RELAYPATH_BAD_ROOT 5      /* the root is n or more */
@@ -195,6 +195,116 @@ uint32_t relaypath_subtree_size(const uint32_t *parent, size_t parent_len,
                                 const uint32_t *size, size_t size_len,
                                 size_t r, size_t v,
                                 size_t *answer);
+
+/* The numbers of v's subtree: from *start up to *end, the end excluded. */
+uint32_t relaypath_subtree_range(const uint32_t *parent, size_t parent_len,
+                                 const uint32_t *depth, size_t depth_len,
+                                 const uint32_t *head, size_t head_len,
+                                 const uint32_t *id, size_t id_len,
+                                 const uint32_t *order, size_t order_len,
+                                 const uint32_t *size, size_t size_len,
+                                 size_t v,
+                                 size_t *start, size_t *end);
+
+/*
+ * The path from u to v as ranges of numbers, on the six tables of a build.
+ *
+ * A range takes three entries of `ranges`: its start, its end (excluded), and its
+ * direction, RELAYPATH_FORWARD or RELAYPATH_REVERSED. Read one after the other,
+ * a Forward range from its start up, a Reversed one from its end down, the ranges
+ * give the path from u to v in order.
+ *
+ * Answers RELAYPATH_DONE and writes how many ranges there are into *count; the
+ * entries past them are unchanged. Refusals are those of the queries, and last
+ * RELAYPATH_NO_ROOM where 3 * count is more than ranges_len; then neither the
+ * list nor *count is written. relaypath_range_room(n) ranges are always enough.
+ * Time: at most proportional to the logarithm of n. They take no other memory.
+ */
+#define RELAYPATH_FORWARD 0
+#define RELAYPATH_REVERSED 1
+
+/* The numbers of the path's vertices. */
+uint32_t relaypath_vertex_path_ranges(const uint32_t *parent, size_t parent_len,
+                                      const uint32_t *depth, size_t depth_len,
+                                      const uint32_t *head, size_t head_len,
+                                      const uint32_t *id, size_t id_len,
+                                      const uint32_t *order, size_t order_len,
+                                      const uint32_t *size, size_t size_len,
+                                      size_t u, size_t v,
+                                      uint32_t *ranges, size_t ranges_len,
+                                      size_t *count);
+
+/* The numbers of the path's edges, each the number of its child. */
+uint32_t relaypath_edge_path_ranges(const uint32_t *parent, size_t parent_len,
+                                    const uint32_t *depth, size_t depth_len,
+                                    const uint32_t *head, size_t head_len,
+                                    const uint32_t *id, size_t id_len,
+                                    const uint32_t *order, size_t order_len,
+                                    const uint32_t *size, size_t size_len,
+                                    size_t u, size_t v,
+                                    uint32_t *ranges, size_t ranges_len,
+                                    size_t *count);
+
+/* Vertices and edges in turn: vertex x is twice its number, and the edge to its
+ * parent one less than that. */
+uint32_t relaypath_vertex_edge_path_ranges(const uint32_t *parent, size_t parent_len,
+                                           const uint32_t *depth, size_t depth_len,
+                                           const uint32_t *head, size_t head_len,
+                                           const uint32_t *id, size_t id_len,
+                                           const uint32_t *order, size_t order_len,
+                                           const uint32_t *size, size_t size_len,
+                                           size_t u, size_t v,
+                                           uint32_t *ranges, size_t ranges_len,
+                                           size_t *count);
+
+/* The number of ranges that is enough for every path among n vertices;
+ * RELAYPATH_BAD_SIZE where n is not from 1 to RELAYPATH_MAX_VERTICES. */
+uint32_t relaypath_range_room(size_t n, size_t *answer);
+
+/*
+ * The part of two stores that a range names. Both have the same length m, from 1
+ * to 32768, one entry to a number, and the second is the first turned round.
+ * Answers the part's length and writes into *place where it begins, in the first
+ * store for RELAYPATH_FORWARD, in the second for RELAYPATH_REVERSED. So the part
+ * is read from its first entry to its last in either direction. Where the stores
+ * are no such pair, or not start < end <= m, or the direction is neither, the
+ * part is empty: 0, at place 0. The stores are never written.
+ */
+size_t relaypath_rule_part(const uint32_t *first, size_t first_len,
+                           const uint32_t *second, size_t second_len,
+                           size_t start, size_t end, uint32_t direction,
+                           size_t *place);
+
+/*
+ * The centroid decomposition of a tree, the first search starting at vertex 0.
+ * Answers RELAYPATH_DONE exactly where the graph is a tree and both tables have n
+ * entries. Otherwise it answers a code from 1 to 8 and writes no table.
+ *
+ * offsets, targets: read, never written.
+ * parent: entry v is the centroid whose removal made the component of which v is
+ *     the centroid, RELAYPATH_NO_PARENT for the first one.
+ * level: entry v is the number of centroids above v, at most log2(n).
+ * work: as for relaypath_validate_tree.
+ * Time: proportional to n log n. It takes no other memory.
+ */
+uint32_t relaypath_try_centroid_decomposition(const uint32_t *offsets, size_t offsets_len,
+                                              const uint32_t *targets, size_t targets_len,
+                                              uint32_t *parent, size_t parent_len,
+                                              uint32_t *level, size_t level_len,
+                                              uint32_t *work, size_t work_len);
+
+/* The entry of v in the decomposition's parent or level. RELAYPATH_BAD_SIZE where
+ * the two tables are not of one length from 1 to RELAYPATH_MAX_VERTICES, then
+ * RELAYPATH_BAD_VERTEX; the answer is then left as it was. */
+uint32_t relaypath_centroid_parent(const uint32_t *parent, size_t parent_len,
+                                   const uint32_t *level, size_t level_len,
+                                   size_t v,
+                                   uint32_t *answer);
+
+uint32_t relaypath_centroid_level(const uint32_t *parent, size_t parent_len,
+                                  const uint32_t *level, size_t level_len,
+                                  size_t v,
+                                  uint32_t *answer);
 
 #ifdef __cplusplus
 }

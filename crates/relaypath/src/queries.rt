@@ -1,8 +1,9 @@
 // Queries on six lent tables under their C names. Each answers its code; the value goes into `answer`, which a refusal leaves as it was.
 use crate::handed::hand;
+use crate::handed::hand_ends;
 ghost use Rattle.tables.specs.Tables.{six};
-ghost use Rattle.climb.specs.Queries.{vertexCount, rootOf, depthOf, vertexId, distance as distanceOf, lca as lcaOf, kthAncestor, jump as jumpOf, subtreeSize};
-ghost use Rattle.relaypath.specs.Handed.{Handed};
+ghost use Rattle.climb.specs.Queries.{vertexCount, rootOf, depthOf, vertexId, distance as distanceOf, lca as lcaOf, kthAncestor, jump as jumpOf, subtreeSize, subtreeRange};
+ghost use Rattle.relaypath.specs.Handed.{Handed, HandedEnds};
 
 // The number of vertices.
 #[no_mangle]
@@ -169,4 +170,23 @@ pub extern "C" fn relaypath_subtree_size(
 {
     let found = climb::sizes::subtree_size(parent, depth, head, id, order, size, r, v);
     hand(found, answer)
+}
+
+// The numbers of v's subtree, from `start` up to `end`, the end excluded.
+#[no_mangle]
+pub extern "C" fn relaypath_subtree_range(
+    parent: &[u32],
+    depth: &[u32],
+    head: &[u32],
+    id: &[u32],
+    order: &[u32],
+    size: &[u32],
+    v: usize,
+    start: &mut usize,
+    end: &mut usize,
+) -> u32
+    ensures { λ code. ⌜ HandedEnds (subtreeRange (six (now (parent .entry)) (now (depth .entry)) (now (head .entry)) (now (id .entry)) (now (order .entry)) (now (size .entry))) v) (now (start .entry)) (now (end .entry)) (now (start .exit)) (now (end .exit)) code ⌝ }
+{
+    let found = climb::sizes::subtree_range(parent, depth, head, id, order, size, v);
+    hand_ends(found, start, end)
 }

@@ -1,0 +1,49 @@
+// The centroid decomposition under its C names.
+use crate::handed::hand_entry;
+ghost use Rattle.centroid.specs.Calls.{Decomposes};
+ghost use Rattle.centroid.specs.Reads.{readOf};
+ghost use Rattle.relaypath.specs.Handed.{HandedEntry};
+
+// The centroid decomposition of the tree of offsets and targets, the first search starting at 0: the centroid above each vertex and its
+// level. Answers 0, else the code of the first test that is not passed, and then writes no table. Work needs 8n + E entries, which are zero
+// afterwards.
+#[no_mangle]
+pub extern "C" fn relaypath_try_centroid_decomposition(
+    offsets: &[u32],
+    targets: &[u32],
+    parent: &mut [u32],
+    level: &mut [u32],
+    work: &mut [u32],
+) -> u32
+    ensures { λ r. ⌜ Decomposes (now (offsets .entry)) (now (targets .entry)) (now (parent .entry)) (now (level .entry)) (now (work .entry)) (now (parent .exit)) (now (level .exit)) (now (work .exit)) r ⌝ }
+{
+    centroid::decompose::try_centroid_decomposition(offsets, targets, parent, level, work)
+}
+
+// The centroid above v.
+#[no_mangle]
+pub extern "C" fn relaypath_centroid_parent(
+    parent: &[u32],
+    level: &[u32],
+    v: usize,
+    answer: &mut u32,
+) -> u32
+    ensures { λ code. ⌜ HandedEntry (readOf (now (parent .entry)) (now (level .entry)) v) (now (answer .entry)) (now (answer .exit)) code ⌝ }
+{
+    let found = centroid::tables::centroid_parent(parent, level, v);
+    hand_entry(found, answer)
+}
+
+// The level of v.
+#[no_mangle]
+pub extern "C" fn relaypath_centroid_level(
+    parent: &[u32],
+    level: &[u32],
+    v: usize,
+    answer: &mut u32,
+) -> u32
+    ensures { λ code. ⌜ HandedEntry (readOf (now (level .entry)) (now (parent .entry)) v) (now (answer .entry)) (now (answer .exit)) code ⌝ }
+{
+    let found = centroid::tables::centroid_level(parent, level, v);
+    hand_entry(found, answer)
+}
