@@ -74,3 +74,52 @@ queries! {
     jump = relaypath_jump(u, v, k);
     subtree_size = relaypath_subtree_size(r, v);
 }
+
+extern "C" {
+    fn relaypath_subtree_range(
+        parent: *const u32,
+        parent_len: usize,
+        depth: *const u32,
+        depth_len: usize,
+        head: *const u32,
+        head_len: usize,
+        id: *const u32,
+        id_len: usize,
+        order: *const u32,
+        order_len: usize,
+        size: *const u32,
+        size_len: usize,
+        v: usize,
+        start: *mut usize,
+        end: *mut usize,
+    ) -> u32;
+}
+
+// A code, and what stands in the two numbers lent for the interval after the call.
+pub fn subtree_range(tables: &Tables, v: usize) -> (u32, usize, usize) {
+    let [parent, depth, head, id, order, size] = &tables.0;
+    let (mut start, mut end) = (UNANSWERED, UNANSWERED);
+    // Safety: as above.
+    let code = unsafe {
+        relaypath_subtree_range(
+            parent.as_ptr(),
+            parent.len(),
+            depth.as_ptr(),
+            depth.len(),
+            head.as_ptr(),
+            head.len(),
+            id.as_ptr(),
+            id.len(),
+            order.as_ptr(),
+            order.len(),
+            size.as_ptr(),
+            size.len(),
+            v,
+            &mut start,
+            &mut end,
+        )
+    };
+    (code, start, end)
+}
+
+pub const NO_SUBTREE: (u32, usize, usize) = (4, UNANSWERED, UNANSWERED);

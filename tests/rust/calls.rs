@@ -35,6 +35,19 @@ extern "C" {
         work: *mut u32,
         work_len: usize,
     ) -> u32;
+
+    fn relaypath_try_centroid_decomposition(
+        offsets: *const u32,
+        offsets_len: usize,
+        targets: *const u32,
+        targets_len: usize,
+        parent: *mut u32,
+        parent_len: usize,
+        level: *mut u32,
+        level_len: usize,
+        work: *mut u32,
+        work_len: usize,
+    ) -> u32;
 }
 
 pub const DONE: u32 = 0;
@@ -106,12 +119,11 @@ impl Lent {
         }
     }
 
-    // The proved build into these tables, with work full of the pattern before.
-    pub fn build_into(&mut self, root: usize, mut tables: Tables) -> Answer {
-        self.work.fill(PATTERN);
+    // The proved build into these tables, with work as it is.
+    pub fn build_again(&mut self, root: usize, tables: &mut Tables) -> u32 {
         let [parent, depth, head, id, order, size] = &mut tables.0;
         // Safety: each pointer has as many entries as the length after it says, and no two of the nine overlap.
-        let code = unsafe {
+        unsafe {
             relaypath_try_hld(
                 self.offsets.as_ptr(),
                 self.offsets.len(),
@@ -133,13 +145,44 @@ impl Lent {
                 self.work.as_mut_ptr(),
                 self.work.len(),
             )
-        };
+        }
+    }
+
+    // The same with work full of the pattern before.
+    pub fn build_into(&mut self, root: usize, mut tables: Tables) -> Answer {
+        self.work.fill(PATTERN);
+        let code = self.build_again(root, &mut tables);
         Answer { code, tables }
     }
 
     // The proved build into tables of the right length, full of the pattern before.
     pub fn build(&mut self, root: usize) -> Answer {
         self.build_into(root, Tables::unwritten(self.vertices()))
+    }
+
+    // The proved centroid decomposition into these two tables, with work full of the pattern before.
+    pub fn decompose(&mut self, parent: &mut [u32], level: &mut [u32]) -> u32 {
+        self.work.fill(PATTERN);
+        self.decompose_again(parent, level)
+    }
+
+    // The same with work as it is.
+    pub fn decompose_again(&mut self, parent: &mut [u32], level: &mut [u32]) -> u32 {
+        // Safety: each pointer has as many entries as the length after it says, and no two of the five overlap.
+        unsafe {
+            relaypath_try_centroid_decomposition(
+                self.offsets.as_ptr(),
+                self.offsets.len(),
+                self.targets.as_ptr(),
+                self.targets.len(),
+                parent.as_mut_ptr(),
+                parent.len(),
+                level.as_mut_ptr(),
+                level.len(),
+                self.work.as_mut_ptr(),
+                self.work.len(),
+            )
+        }
     }
 
     // Whether work is as it must be after the codes 0 and 3 to 8: zero as far as it was asked for, and unchanged past that.

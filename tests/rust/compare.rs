@@ -7,10 +7,13 @@
 //   compare --try NAME          run the original on one entry of the table in uneven.rs (used for those that never end)
 mod asked;
 mod calls;
+mod centroids;
 mod labelled;
+mod listed;
 mod lists;
 mod queries;
 mod random;
+mod ranges;
 mod refused;
 mod sample;
 mod sample_hld;
@@ -30,6 +33,8 @@ fn compare(short: bool) -> ExitCode {
     shapes::all(&mut tally, short);
     refused::all(&mut tally);
     queries::all(&mut tally, short);
+    ranges::all(&mut tally, short);
+    centroids::all(&mut tally, short);
     uneven::all(&mut tally, short);
     tally.verdict()
 }

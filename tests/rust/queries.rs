@@ -1,5 +1,5 @@
 // The queries on built tables, held against the original's: all arguments on small trees, random ones on large trees.
-use crate::asked::{self, is, Asked, BAD_VERTEX, TOO_FAR};
+use crate::asked::{self, is, BAD_VERTEX, NO_SUBTREE, TOO_FAR};
 use crate::calls::{original_graph, Lent};
 use crate::labelled::trees;
 use crate::lists::Lists;
@@ -8,6 +8,7 @@ use crate::shapes::{graph, SHAPES};
 use crate::tables::Tables;
 use crate::tally::Tally;
 use original::hld::Hld;
+use std::fmt::Debug;
 
 // A tree from one root on both sides.
 struct Both<'a> {
@@ -28,7 +29,13 @@ impl<'a> Both<'a> {
         }
     }
 
-    fn check(&mut self, query: &str, arguments: &[usize], ours: Asked, theirs: Asked) {
+    fn check<A: PartialEq + Debug>(
+        &mut self,
+        query: &str,
+        arguments: &[usize],
+        ours: A,
+        theirs: A,
+    ) {
         if ours != theirs {
             let name = &self.name;
             self.tally.wrong(&format!(
@@ -45,6 +52,8 @@ impl<'a> Both<'a> {
         self.check("vertex_count", &[], count, is(n));
         self.check("root", &[], root, is(self.hld.root()));
         self.check("depth", &[n], too_high, BAD_VERTEX);
+        let too_high = asked::subtree_range(&self.tables, n);
+        self.check("subtree_range", &[n], too_high, NO_SUBTREE);
     }
 
     fn one(&mut self, v: usize, k: usize) {
@@ -53,6 +62,9 @@ impl<'a> Both<'a> {
         let up = asked::kth_ancestor(t, v, k);
         self.check("depth", &[v], depth, is(self.hld.depth(v)));
         self.check("vertex_id", &[v], id, is(self.hld.vertex_id(v)));
+        let range = asked::subtree_range(&self.tables, v);
+        let (start, end) = self.hld.subtree_range(v);
+        self.check("subtree_range", &[v], range, (0, start, end));
         let theirs = self.hld.kth_ancestor(v, k).map_or(TOO_FAR, is);
         self.check("kth_ancestor", &[v, k], up, theirs);
     }
