@@ -7,3 +7,4 @@ pub mod Passed
 pub mod Reading
 pub mod Answering
 pub mod Counting
+pub mod Logs

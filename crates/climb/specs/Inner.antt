@@ -14,6 +14,7 @@ use Rattle.climb.specs.Choice.{pick, both}
 use Rattle.climb.specs.Sound.{standOn}
 use Rattle.climb.specs.Climbing.{leaveChain, climbTo, ancestorOf}
 use Rattle.climb.specs.Queries.{entryAt, ancestorFrom, ancestorIn, withoutChild}
+use Rattle.climb.specs.declared.log.Halved.{Halved}
 use Rattle.climb.specs.declared.answers.Answer.{Answer}
 use Rattle.climb.specs.declared.answers.Answer.the-variants.{Is}
 use Rattle.climb.specs.declared.places.Stood.the-variants.{On}
@@ -24,6 +25,11 @@ use Rattle.climb.specs.declared.places.Climb.{Climb}
 use Rattle.climb.specs.declared.places.Stood.{Stood}
 use Rattle.climb.specs.declared.places.Climbed.{Climbed}
 use Rattle.climb.specs.declared.places.Climbed.the-variants.{Met}
+
+-- the halvings done and those of what is left are those of n
+pub record Halves (n : ℕ) (h : Halved) : Type 0 where
+  pub together : h .count + log2 (h .left) ≡ log2 n
+  pub fits : h .count + h .left ≤ n
 
 -- the four tables that a climb reads have one length
 pub record Even (P D H I : List ℕ) : Type 0 where

@@ -82,7 +82,8 @@ pub fn ancestor_from(
     }
 }
 
-// k steps up from the vertex v. `chains` is the floor of log2 n.
+// k steps up from the vertex v. `chains` is the floor of log2 n. The answer is taken apart and made again, which is quicker than to move it
+// whole.
 pub fn ancestor_in(
     parent: &[u32],
     depth: &[u32],
@@ -99,5 +100,9 @@ pub fn ancestor_in(
     let Stood::On(p) = stand(parent, depth, head, id, v) else {
         return Answer::Refused(Refusal::BadTable);
     };
-    ancestor_from(parent, depth, head, id, order, chains, p, k)
+    let found = ancestor_from(parent, depth, head, id, order, chains, p, k);
+    let Answer::Is(y) = found else {
+        return found;
+    };
+    Answer::Is(y)
 }
