@@ -95,7 +95,8 @@ module _ (kind : Kind) (t : Six) (u v : ℕ) where
           v-below = first-below (others p);
         }
 
-    ready-ranges : fromFound (pathRanges kind (sizeOf t) t u v) ≡ rangesOf kind t u v
+    -- the answer is that of the climb
+    pub ready-ranges : fromFound (pathRanges kind (sizeOf t) t u v) ≡ rangesOf kind t u v
     unfolding rangesOf
     ready-ranges =
         let p = verdict-passed t (u ∷ v ∷ []) ready in

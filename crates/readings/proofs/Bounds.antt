@@ -41,7 +41,7 @@ last-within Edges n l r d h i = elim (decLt (l + 1) r) [
 last-within Both n l r d h i = (omega arith, omega arith, tt)
 
 -- the last chain has at most one range
-last-one : (kind : Kind) (l r : ℕ) (d : Direction) → length (lastRange kind l r d) ≤ 1
+pub last-one : (kind : Kind) (l r : ℕ) (d : Direction) → length (lastRange kind l r d) ≤ 1
 last-one Vertices l r d = omega arith
 last-one Edges l r d = elim (decLt (l + 1) r) [
   | yes p ↦ rw (lt-ltb (l + 1) r p) (omega arith)

@@ -1,0 +1,92 @@
+-- On any tables a path has at most 31 ranges: each side leaves at most floor(log2 n) chains, and the last chain has one range or none.
+use Prim.Native.Nat.{ℕ, _+_, _*_, _≤_, _^_}
+use native.Mathlib.Omega.{arith}
+use native.Mathlib.Decide.{decLt}
+use mathlib.Core.Path.{_≡_, refl, sym, ap, _∙_}
+use mathlib.Core.List.{List, [], _∷_}
+use lib.ListN.{length}
+use lib.Pow.{pow-mono}
+use borrow.Author.Tests.{lt-ltb, le-ltb}
+use Rattle.graph.specs.Limits.{maxVertices}
+use Rattle.numbering.specs.Log.{log2}
+use Rattle.numbering.proofs.Logs.{log2-low}
+use Rattle.tables.specs.Tables.{Six}
+use Rattle.climb.specs.Queries.{sizeOf, asked}
+use Rattle.climb.specs.Climbing.{climbTo}
+use Rattle.climb.specs.declared.asked.Verdict.{Verdict}
+use Rattle.climb.specs.declared.asked.Verdict.the-variants.{Ready, Refused as Stopped}
+use Rattle.climb.specs.declared.places.Climb.{Climb}
+use Rattle.climb.specs.declared.places.Climbed.{Climbed}
+use Rattle.climb.specs.declared.places.Climbed.the-variants.{Met, Lost}
+use Rattle.climb.proofs.Passed.{verdict-refused}
+use Rattle.ranges.specs.declared.kinds.Direction.the-variants.{Forward, Reversed}
+use Rattle.ranges.specs.declared.kinds.PathRange.{PathRange}
+use Rattle.ranges.specs.declared.kinds.Kind.{Kind}
+use Rattle.ranges.specs.Ranges.{Found, lost, found, lastChain, pathRanges}
+use Rattle.ranges.specs.Calls.{refused, listed, fromFound, rangesOf}
+use Rattle.ranges.proofs.Looks.{Agree, agree}
+use Rattle.ranges.proofs.Listing.{ready-some, ready-small, ready-ranges}
+use Rattle.readings.proofs.Bounds.{last-one}
+use Rattle.records.specs.Inner.{mostRanges}
+
+-- the largest number of vertices can be halved fifteen times
+log2-few : (n : ℕ) → 1 ≤ n → n ≤ maxVertices → log2 n ≤ 15
+unfolding maxVertices
+log2-few n some small = elim (decLt 15 (log2 n)) [
+  | yes h ↦
+      let l = log2-low n some in
+      let p : 2 ^ 16 ≤ 2 ^ log2 n = pow-mono {i = 16} {j = log2 n} (omega arith) in
+      absurd (omega arith)
+  | no h ↦ omega arith
+]
+
+-- the last chain of a climb has at most one range
+last-chain-one : (kind : Kind) (c : Climb) → length (lastChain kind c) ≤ 1
+last-chain-one kind c = elim (decLt (c .v .id) (c .u .id)) [
+  | yes p ↦ rw (lt-ltb (c .v .id) (c .u .id) p) (last-one kind (c .v .id) (c .u .id + 1) Reversed)
+  | no q ↦ rw (le-ltb (c .v .id) (c .u .id) (omega arith)) (last-one kind (c .u .id) (c .v .id + 1) Forward)
+]
+
+-- the ranges of a climb are at most one more than both sides' chains
+found-few : (kind : Kind) (n : ℕ) (D : List ℕ) (x : Climbed) (f : Found) → Agree kind n D 0 x f
+    → (l : List PathRange) → f ≡ found l → length l ≤ 2 * log2 n + 1
+found-few kind n D Lost f a l e =
+    let z : lost ≡ found l = sym a ∙ e in
+    let c : _≡_ {A = ℕ} 0 1 = cc in
+    absurd (omega arith)
+found-few kind n D (Met d) f a l e =
+    let z : found (a .list) ≡ found l = sym (a .same) ∙ e in
+    let m : a .list ≡ l = cc in
+    let k = ap length m in
+    omega (arith, a .counted, a .u-few, a .v-few, last-chain-one kind d, k)
+
+module _ (kind : Kind) (t : Six) (u v : ℕ) where
+  -- the climb's ranges are few
+  climb-few : asked t (u ∷ v ∷ []) Stopped Ready ≡ Ready → (l : List PathRange) → pathRanges kind (sizeOf t) t u v ≡ found l → length l ≤ mostRanges
+  unfolding mostRanges
+  climb-few ready l e =
+      let a = agree kind (sizeOf t) t u v in
+      let f = found-few kind (sizeOf t) (t .depth) (climbTo (sizeOf t) t u v) (pathRanges kind (sizeOf t) t u v) a l e in
+      let g = log2-few (sizeOf t) (ready-some kind t u v ready) (ready-small kind t u v ready) in
+      omega arith
+
+  -- whichever way the tests and the climb go
+  few-at : (x : Verdict) → asked t (u ∷ v ∷ []) Stopped Ready ≡ x → (f : Found) → pathRanges kind (sizeOf t) t u v ≡ f
+      → (l : List PathRange) → rangesOf kind t u v ≡ listed l → length l ≤ mostRanges
+  unfolding rangesOf
+  few-at (Stopped x) e f g l h =
+      let z : refused x ≡ listed l = verdict-refused t (u ∷ v ∷ []) refused (fromFound (pathRanges kind (sizeOf t) t u v)) e ∙ h in
+      let c : _≡_ {A = ℕ} 0 1 = cc in
+      absurd (omega arith)
+  few-at Ready e lost g l h =
+      let z : fromFound lost ≡ listed l = sym (ap fromFound g) ∙ ready-ranges kind t u v e ∙ h in
+      let c : _≡_ {A = ℕ} 0 1 = cc in
+      absurd (omega arith)
+  few-at Ready e (found m) g l h =
+      let z : listed m ≡ listed l = sym (ap fromFound g) ∙ ready-ranges kind t u v e ∙ h in
+      let k : m ≡ l = cc in
+      climb-few e l (g ∙ ap found k)
+
+  -- the ranges that a call is for are few, on any tables
+  pub ranges-few : (l : List PathRange) → rangesOf kind t u v ≡ listed l → length l ≤ mostRanges
+  ranges-few = few-at (asked t (u ∷ v ∷ []) Stopped Ready) refl (pathRanges kind (sizeOf t) t u v) refl

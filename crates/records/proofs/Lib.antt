@@ -1,0 +1,6 @@
+pub mod Few
+pub mod Copying
+pub mod Planning
+pub mod Handed
+pub mod Handing
+pub mod Reading

@@ -1,0 +1,27 @@
+-- What the calls for records answer, and what they leave in the lent slice: "a lent slice of records, one record to a range".
+use Prim.Native.Nat.{ℕ}
+use mathlib.Core.Path.{_≡_}
+use mathlib.Core.List.{List, _++_}
+use lib.Dec.{leb}
+use lib.ListN.{length, drop}
+use Rattle.climb.specs.Choice.{pick}
+use Rattle.climb.specs.declared.answers.Refusal.the-variants.{NoRoom}
+use Rattle.ranges.specs.declared.kinds.PathRange.{PathRange}
+use Rattle.ranges.specs.declared.kinds.Listed.{Listed}
+use Rattle.ranges.specs.declared.kinds.Listed.the-variants.{Count, Refused}
+use Rattle.ranges.specs.Calls.{Answered, refused, listed}
+
+-- "A query tests 1, then 4; 9 and 10 come as the climb meets them; 2 for lists is last"
+abbrev pub recordAnswer : Answered → ℕ → Listed
+recordAnswer (refused x) room = Refused x
+recordAnswer (listed l) room = pick (leb (length l) room) (Count (length l)) (Refused NoRoom)
+
+-- where the slice is too short nothing is written; "Entries of a list past its count are unchanged"
+abbrev pub recordList : Answered → List PathRange → List PathRange
+recordList (refused x) lent = lent
+recordList (listed l) lent = pick (leb (length l) (length lent)) (l ++ drop (length l) lent) lent
+
+-- what a call answers and leaves in the slice that it was lent
+pub record RecordedAs (a : Answered) (lent left : List PathRange) (r : Listed) : Type 0 where
+  pub answer : r ≡ recordAnswer a (length lent)
+  pub list : left ≡ recordList a lent
