@@ -121,10 +121,10 @@ adding-one {n} {c} {l} {t} {K} {w₀} {w} {x} {R} {m} A room hm =
     }
 
 -- the rest of a list behind its entry k
-rest-gone : (g : ℕ → Bool) (l : List ℕ) (k : ℕ) → k < length l → g (at l k) ≡ false → keep g (drop k l) ≡ keep g (drop (k + 1) l)
+pub rest-gone : (g : ℕ → Bool) (l : List ℕ) (k : ℕ) → k < length l → g (at l k) ≡ false → keep g (drop k l) ≡ keep g (drop (k + 1) l)
 rest-gone g l k h e = ap (keep g) (drop-cons l k 0 h) ∙ keep-false g (at l k) (drop (suc k) l) e ∙ ap (λ (i : ℕ). keep g (drop i l)) (sym (add-one k))
 
-rest-new : (g : ℕ → Bool) (l : List ℕ) (k : ℕ) → k < length l → g (at l k) ≡ true → keep g (drop k l) ≡ at l k ∷ keep g (drop (k + 1) l)
+pub rest-new : (g : ℕ → Bool) (l : List ℕ) (k : ℕ) → k < length l → g (at l k) ≡ true → keep g (drop k l) ≡ at l k ∷ keep g (drop (k + 1) l)
 rest-new g l k h e = ap (keep g) (drop-cons l k 0 h) ∙ keep-true g (at l k) (drop (suc k) l) e ∙ ap (λ (i : ℕ). at l k ∷ keep g (drop i l)) (sym (add-one k))
 
 -- the loop over the list l, with work w₀ at its start

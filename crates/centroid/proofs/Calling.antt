@@ -37,7 +37,7 @@ all-passed os ts (inr (o, inr (t, inr (r, inr (s, inr (u, inl f)))))) z = absurd
 all-passed os ts (inr (o, inr (t, inr (r, inr (s, inr (u, inr (x, y))))))) z = record { offsets = o; targets = t; tree = x }
 
 -- an accepted graph is a tree seen from 0
-lent-tree : {os ts w w′ : List ℕ} {c : ℕ} → Sized os ts → Judged os ts 0 w w′ c → c ≡ done → LentTree os ts (vertices os)
+pub lent-tree : {os ts w w′ : List ℕ} {c : ℕ} → Sized os ts → Judged os ts 0 w w′ c → c ≡ done → LentTree os ts (vertices os)
 lent-tree {os} {ts} {w} {w′} s j z =
     let p = all-passed os ts (j .code) z in
     let v = j .visit z .visited in

@@ -20,7 +20,8 @@ use Rattle.graph.specs.Marks.{markOf}
 use Rattle.graph.specs.Work.{Only, Zeroed}
 use Rattle.graph.proofs.Frames.{only-refl, only-trans, only-wider, only-set, at-set-same, at-set-other}
 use Rattle.centroid.specs.Regions.{startsFrom, startAt, parentsFrom, parentAt, levelsFrom, levelAt, removedFrom, queueFrom, regionsEnd}
-use Rattle.centroid.specs.Search.{live}
+use Rattle.centroid.specs.Decomposition.{DecompositionOf}
+use Rattle.centroid.specs.Search.{LentTree, live}
 use Rattle.centroid.specs.Parting.{first, Parting, PartingIn, RemoveAsks, Removed, DecomposeAsks, Decomposed}
 use Rattle.centroid.proofs.Living.{unmarked-live}
 use Rattle.centroid.proofs.Classes.{on-joined}
@@ -49,6 +50,22 @@ parting-start {n} {A} {par} {dep} Sp {S} {P} {L} {up} hn s0 p0 l0 =
       sorted = λ j l a b d. (let x = level j (omega arith) in let y = level l d in omega arith);
       close = λ j l a b d e. (let x = level j b in let y = level l e in omega arith);
       small = λ j a b. (let x = level j b in omega arith);
+    }
+
+-- where none waits, both tables are written
+pub parted : {os ts : List ℕ} {n : ℕ} {up level w : List ℕ} {h t : ℕ} → LentTree os ts n → PartingIn os ts n up level w h t → h ≡ t
+    → DecompositionOf n (listOf os ts) up level
+parted {n = n} {level = level} T g e =
+    let lv : ℕ → ℕ = g .lv in
+    let gone = parting-all (T .spans) (g .parting (T .par) (T .dep) (T .spans)) e in
+    let held : (x : ℕ) → x < n → at level x ≡ lv x = λ x hx. g .levels x hx (gone x hx) in
+    record {
+      up-long = g .up-long;
+      level-long = g .level-long;
+      centroids = λ par dep S c hc.
+          centroid-at-same S hc (gone c hc) refl (held c hc) (λ u hu l. held u hu)
+          (λ y hy. ap (λ (x : ℕ). leb x (lv y)) (sym (held c hc)) ∙ ap (leb (at level c)) (sym (held y hy)))
+          (g .parting par dep S .centroids c hc (gone c hc));
     }
 
 -- "no parent" as the code has it
@@ -141,18 +158,4 @@ module _ {os ts : List ℕ} {n : ℕ} {up level w : List ℕ} (a : DecomposeAsks
 
     -- none waits: both tables are written
     pub going-done : h ≡ t → Decomposed os ts n up₁ level₁ w v
-    going-done e =
-        let lv : ℕ → ℕ = g .state .lv in
-        let gone : (x : ℕ) → x < n → lv x < n = parting-all (a .tree .spans) now-parting e in
-        let held : (x : ℕ) → x < n → at level₁ x ≡ lv x = λ x hx. g .state .levels x hx (gone x hx) in
-        record {
-          tables = record {
-            up-long = g .state .up-long;
-            level-long = g .state .level-long;
-            centroids = λ par dep S c hc.
-                centroid-at-same S hc (gone c hc) refl (held c hc) (λ u hu l. held u hu)
-                (λ y hy. ap (λ (x : ℕ). leb x (lv y)) (sym (held c hc)) ∙ ap (leb (at level₁ c)) (sym (held y hy)))
-                (g .state .parting par dep S .centroids c hc (gone c hc));
-          };
-          only = only-trans begun-only (g .only);
-        }
+    going-done e = record { tables = parted (a .tree) (g .state) e; only = only-trans begun-only (g .only) }

@@ -50,3 +50,14 @@ sizeAt n j = sizesFrom n + j
 -- the end of the last region
 abbrev pub regionsEnd : ℕ → ℕ
 regionsEnd n = 7 * n
+
+-- the levels by vertex behind it, where no table is lent for them
+abbrev pub levelOfFrom : ℕ → ℕ
+levelOfFrom n = 7 * n
+
+abbrev pub levelOfAt : ℕ → ℕ → ℕ
+levelOfAt n v = levelOfFrom n + v
+
+-- the end of the region behind it
+abbrev pub workEnd : ℕ → ℕ
+workEnd n = 8 * n

@@ -33,7 +33,7 @@ fn add_start(n: usize, x: usize, c: usize, level: u32, tail: usize, work: &mut [
 }
 
 // Lets the neighbours of c that are not removed wait as starts.
-fn add_starts(
+pub fn add_starts(
     offsets: &[u32],
     targets: &[u32],
     n: usize,

@@ -15,3 +15,6 @@ pub const QUEUE: usize = 4;
 pub const FROM: usize = 5;
 
 pub const SIZES: usize = 6;
+
+// The level of each vertex, where no table is lent for it.
+pub const LEVEL_OF: usize = 7;

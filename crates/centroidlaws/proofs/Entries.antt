@@ -41,7 +41,7 @@ pub record Holds (n : ℕ) (C : ℕ → Bool) (q : List ℕ) : Type 0 where
   pub size : length q ≡ howMany n C
 
 -- a list of vertices is below n
-below-all : (n : ℕ) (l : List ℕ) → ((x : ℕ) → In x l → x < n) → Below n l
+pub below-all : (n : ℕ) (l : List ℕ) → ((x : ℕ) → In x l → x < n) → Below n l
 below-all n [] h = tt
 below-all n (x ∷ l) h = (h x (inl refl), below-all n l (λ y i. h y (inr i)))
 
@@ -75,7 +75,7 @@ module _ {n : ℕ} {A : ℕ → List ℕ} {par dep : ℕ → ℕ} (T : Listed n 
       ne (before-one T (K .centre-below) hx b hy (⊎-elim inr inl (T .spans .only y x hy hx (r .0))) (r .2)))
 
   -- a list leads on to x as often as the vertex before x stands in it
-  lead-count : {x w : ℕ} → x < n → C x ≡ true → Before n par dep c x w → (q : List ℕ) → Below n q
+  pub lead-count : {x w : ℕ} → x < n → C x ≡ true → Before n par dep c x w → (q : List ℕ) → Below n q
       → count x (onwards A (ptail par dep) C c q) ≡ count w q
   lead-count hx e b [] h = refl
   lead-count {x} {w} hx e b (y ∷ q) h =

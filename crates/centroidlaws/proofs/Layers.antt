@@ -73,7 +73,7 @@ module _ (A : ℕ → List ℕ) (way : ℕ → ℕ → List ℕ) (C : ℕ → Bo
       (in-either y (onward A way C c x) (onwards A way C c q) i)
 
   -- two lists joined lead on to what each leads on to
-  onwards-append : (a b : List ℕ) → onwards A way C c (a ++ b) ≡ onwards A way C c a ++ onwards A way C c b
+  pub onwards-append : (a b : List ℕ) → onwards A way C c (a ++ b) ≡ onwards A way C c a ++ onwards A way C c b
   onwards-append [] b = refl
   onwards-append (x ∷ a) b =
       ap (λ (l : List ℕ). onward A way C c x ++ l) (onwards-append a b)

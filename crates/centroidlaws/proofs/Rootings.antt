@@ -53,7 +53,7 @@ decomposition-from {n} {A} {par} {dep} {up} {level} S e f h = record {
 }
 
 -- numbers that agree on a list's entries are the same in order
-map-same : (f g : ℕ → ℕ) (l : List ℕ) → ((x : ℕ) → In x l → f x ≡ g x) → map f l ≡ map g l
+pub map-same : (f g : ℕ → ℕ) (l : List ℕ) → ((x : ℕ) → In x l → f x ≡ g x) → map f l ≡ map g l
 map-same f g [] h = refl
 map-same f g (x ∷ l) h = ap₂ _∷_ (h x (inl refl)) (map-same f g l (λ y i. h y (inr i)))
 

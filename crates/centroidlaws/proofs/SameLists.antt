@@ -32,7 +32,7 @@ joined-length f zero = refl
 joined-length f (suc n) = let a = length-append (joined f n) (f n) in let ih = joined-length f n in omega arith
 
 -- a number for each entry keeps the length
-joined-map : (f : ℕ → ℕ → ℕ) (q : ℕ → List ℕ) (n : ℕ) → length (joined (λ c. map (f c) (q c)) n) ≡ length (joined q n)
+pub joined-map : (f : ℕ → ℕ → ℕ) (q : ℕ → List ℕ) (n : ℕ) → length (joined (λ c. map (f c) (q c)) n) ≡ length (joined q n)
 joined-map f q n =
     joined-length (λ c. map (f c) (q c)) n
     ∙ sum-ext n (λ c. length (map (f c) (q c))) (λ c. length (q c)) (λ c b. length-map (q c) (f c))

@@ -1,0 +1,13 @@
+pub mod Held
+pub mod Levelling
+pub mod Passing
+pub mod Putting
+pub mod Places
+pub mod Leading
+pub mod Partly
+pub mod Walking
+pub mod Walked
+pub mod Fronts
+pub mod Gathering
+pub mod Gathered
+pub mod Answering
