@@ -306,6 +306,32 @@ uint32_t relaypath_centroid_level(const uint32_t *parent, size_t parent_len,
                                   size_t v,
                                   uint32_t *answer);
 
+/*
+ * The component lists: for c = 0 to n - 1 the vertices of c's component, that is
+ * of what is left around c when the centroids above it are removed, breadth first
+ * in list order. Answers RELAYPATH_DONE exactly where the graph is a tree and all
+ * of it has room. Otherwise it answers a code from 1 to 8 and writes no list.
+ *
+ * offsets, targets: read, never written.
+ * vertices, distances, branches: one entry to a vertex of a component: the vertex,
+ *     its distance from c, and its branch, the neighbour of c that it hangs from (c
+ *     itself for c). Together the lists have the sum of level + 1 over all vertices,
+ *     at most n * (log2(n) + 1); RELAYPATH_NO_ROOM where one of the three arrays has
+ *     fewer. Entries past the lists are unchanged.
+ * starts: at least n + 1 entries, else RELAYPATH_NO_ROOM. The list of c stands from
+ *     starts[c] up to starts[c + 1]. Entries past n + 1 are unchanged.
+ * work: as for relaypath_validate_tree, except that its first 8n + E entries are
+ *     zero too after RELAYPATH_NO_ROOM for starts or lists.
+ * Time: proportional to n log n. It takes no other memory.
+ */
+uint32_t relaypath_component_lists(const uint32_t *offsets, size_t offsets_len,
+                                   const uint32_t *targets, size_t targets_len,
+                                   uint32_t *vertices, size_t vertices_len,
+                                   uint32_t *distances, size_t distances_len,
+                                   uint32_t *branches, size_t branches_len,
+                                   uint32_t *starts, size_t starts_len,
+                                   uint32_t *work, size_t work_len);
+
 #ifdef __cplusplus
 }
 #endif

@@ -71,9 +71,9 @@ pub struct Answer {
 
 // The graph in the proved calls' form, with work of its own.
 pub struct Lent {
-    offsets: Vec<u32>,
-    targets: Vec<u32>,
-    work: Vec<u32>,
+    pub offsets: Vec<u32>,
+    pub targets: Vec<u32>,
+    pub work: Vec<u32>,
     room: usize,
 }
 

@@ -8,6 +8,7 @@
 mod asked;
 mod calls;
 mod centroids;
+mod components;
 mod labelled;
 mod listed;
 mod lists;
@@ -35,6 +36,7 @@ fn compare(short: bool) -> ExitCode {
     queries::all(&mut tally, short);
     ranges::all(&mut tally, short);
     centroids::all(&mut tally, short);
+    components::all(&mut tally, short);
     uneven::all(&mut tally, short);
     tally.verdict()
 }

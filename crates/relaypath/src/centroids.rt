@@ -1,6 +1,6 @@
-// The centroid decomposition under its C names.
+// The centroid decomposition and the component lists under their C names.
 use crate::handed::hand_entry;
-ghost use Rattle.centroid.specs.Calls.{Decomposes};
+ghost use Rattle.centroid.specs.Calls.{Decomposes, Lists};
 ghost use Rattle.centroid.specs.Reads.{readOf};
 ghost use Rattle.relaypath.specs.Handed.{HandedEntry};
 
@@ -46,4 +46,30 @@ pub extern "C" fn relaypath_centroid_level(
 {
     let found = centroid::tables::centroid_level(parent, level, v);
     hand_entry(found, answer)
+}
+
+// The components of the decomposition, for c = 0 to n - 1: c's component breadth first in list order, each vertex with its distance from c
+// and its branch. The list of c stands from starts[c] up to starts[c + 1]. Answers 0, else the code of the first test that is not passed,
+// and then writes no list. Work needs 8n + E entries, which are zero afterwards.
+#[no_mangle]
+pub extern "C" fn relaypath_component_lists(
+    offsets: &[u32],
+    targets: &[u32],
+    vertices: &mut [u32],
+    distances: &mut [u32],
+    branches: &mut [u32],
+    starts: &mut [u32],
+    work: &mut [u32],
+) -> u32
+    ensures { λ r. ⌜ Lists (now (offsets .entry)) (now (targets .entry)) (now (vertices .entry)) (now (distances .entry)) (now (branches .entry)) (now (starts .entry)) (now (work .entry)) (now (vertices .exit)) (now (distances .exit)) (now (branches .exit)) (now (starts .exit)) (now (work .exit)) r ⌝ }
+{
+    components::build::component_lists(
+        offsets,
+        targets,
+        vertices,
+        distances,
+        branches,
+        starts,
+        work,
+    )
 }
