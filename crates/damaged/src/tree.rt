@@ -85,6 +85,27 @@ pub fn depths() {
         1,
         Query::Distance(3, 2),
     );
+    deepest();
+}
+
+// A depth just below the number of vertices, and one that is just not, with the parent one step above.
+fn deepest() {
+    with_two(
+        b"depth(0)=2 and depth(2)=3, depth 2",
+        DEPTH * N,
+        2,
+        DEPTH * N + 2,
+        3,
+        Query::Depth(2),
+    );
+    with_two(
+        b"depth(0)=3 and depth(2)=4, depth 2",
+        DEPTH * N,
+        3,
+        DEPTH * N + 2,
+        4,
+        Query::Depth(2),
+    );
 }
 
 pub fn numbers() {
