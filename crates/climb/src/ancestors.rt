@@ -101,8 +101,8 @@ pub fn ancestor_in(
         return Answer::Refused(Refusal::BadTable);
     };
     let found = ancestor_from(parent, depth, head, id, order, chains, p, k);
-    let Answer::Is(y) = found else {
+    let Answer::Is(x) = found else {
         return found;
     };
-    Answer::Is(y)
+    Answer::Is(x)
 }
