@@ -19,7 +19,7 @@ use Rattle.ranges.specs.declared.kinds.Kind.the-variants.{Vertices, Edges, Both
 use Rattle.ranges.specs.declared.kinds.PathRange.{PathRange}
 use Rattle.treefile.specs.File.{Query, TreeFile}
 use Rattle.treefile.specs.Report.{decimal, space, newline, fields, letter, rangeText, rangesText, numberText, listText, answerText, queryLine, queryLines, treeWord, treeLine, fileReport}
-use Rattle.treefile.specs.Flat.{treeText, queryHead}
+use Rattle.treefile.specs.Flat.{FewRanges, treeText, queryHead}
 use Rattle.treefile.proofs.Digits.{decimal-room}
 use native.Mathlib.Nat.{add-zero}
 
@@ -66,10 +66,6 @@ tree-text-room code n root = go (eqb code 0)
         let f = length-append (decimal n) (space ++ decimal root) in
         omega arith
     go false = omega (arith, decimal-room code, length-append (decimal code) newline)
-
--- no list of these tables has more than 21 ranges
-abbrev pub FewRanges : Six → Type 0
-FewRanges t = (k : Kind) (u v : ℕ) (l : List PathRange) → rangesOf k t u v ≡ listed l → length l ≤ 21
 
 list-text-room : (a : Answered) → ((l : List PathRange) → a ≡ listed l → length l ≤ 21) → length (listText a) ≤ 923
 list-text-room (refused x) few = omega (arith, decimal-room (refusalCode x))

@@ -1,14 +1,17 @@
 -- What a writer reads of a lent flat list, and the parts of the report that it writes at once.
 use Prim.Native.Nat.{ℕ, zero, suc, _+_, _*_, _≤_}
+use mathlib.Core.Path.{_≡_}
 use mathlib.Core.List.{List, [], _∷_, _++_}
 use lib.Dec.{eqb}
 use lib.ListN.{length}
 use Rattle.sums.specs.Sum.{at}
 use Rattle.climb.specs.Choice.{pick}
-use Rattle.ranges.specs.Calls.{Answered, refused, listed}
+use Rattle.tables.specs.Tables.{Six}
+use Rattle.ranges.specs.Calls.{Answered, refused, listed, rangesOf}
 use Rattle.ranges.specs.declared.kinds.Direction.{Direction}
 use Rattle.ranges.specs.declared.kinds.Direction.the-variants.{Forward, Reversed}
 use Rattle.ranges.specs.declared.kinds.PathRange.{PathRange}
+use Rattle.ranges.specs.declared.kinds.Kind.{Kind}
 use Rattle.ranges.specs.declared.kinds.Listed.{Listed}
 use Rattle.ranges.specs.declared.kinds.Listed.the-variants.{Count, Refused}
 use Rattle.treefile.specs.Report.{decimal, space, newline, fields, treeWord, listText}
@@ -49,6 +52,10 @@ numbersOf (listed l) = 3 * length l
 pub record ListRoom (a : Listed) (l : List ℕ) (at : ℕ) (out : List ℕ) : Type 0 where
   pub whole : spokenOf a ≤ length l
   pub room : Room (listedText a l) at out
+
+-- no list of these tables has more than 21 ranges, 2·floor(log2 n)+1 for the program's largest n of 1,024
+abbrev pub FewRanges : Six → Type 0
+FewRanges t = (k : Kind) (u v : ℕ) (l : List PathRange) → rangesOf k t u v ≡ listed l → length l ≤ 21
 
 -- the line of a tree by its code, its number of vertices and its root
 abbrev pub treeText : ℕ → ℕ → ℕ → List ℕ

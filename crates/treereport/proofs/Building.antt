@@ -1,0 +1,97 @@
+-- Laws of the tree of a file: the tests of its build, and that no path on its tables has more than 21 ranges.
+use Prim.Native.Nat.{ℕ, _≤_, _<_, _^_}
+use native.Mathlib.Omega.{arith}
+use native.Mathlib.Decide.{decLe}
+use native.Mathlib.Nat.{pow-le-pow-right}
+use mathlib.Core.Path.{_≡_, sym, ap, _∙_}
+use mathlib.Core.Logic.{_⊎_, inl, inr, ⊎-elim, by-cases}
+use mathlib.Core.List.{List, [], _∷_}
+use lib.ListN.{length, take}
+use lib.Seq.{length-take-le}
+use Rattle.graph.specs.Limits.{maxVertices}
+use Rattle.graph.specs.Judgement.{First}
+use Rattle.graph.specs.Lent.{vertices}
+use Rattle.graph.specs.Validation.{roomOf}
+use Rattle.numbering.specs.Log.{log2}
+use Rattle.numbering.proofs.Logs.{log2-low, log2-small}
+use Rattle.tables.specs.Tables.{Six, six, Long, NumberingOf}
+use Rattle.hld.specs.Build.{building, Builds}
+use Rattle.climb.specs.Queries.{sizeOf}
+use Rattle.climb.specs.declared.answers.Refusal.the-variants.{BadVertex}
+use Rattle.pathlaws.specs.Given.{Given}
+use Rattle.pathlaws.proofs.Standing.{answered, asked-or-refused}
+use Rattle.ranges.specs.Calls.{Answered, refused, listed, fromFound, rangesOf}
+use Rattle.ranges.specs.Ranges.{Found, lost, found, pathRanges}
+use Rattle.ranges.specs.declared.kinds.PathRange.{PathRange}
+use Rattle.readings.proofs.Bounds.{ranges-room}
+use Rattle.treefile.specs.File.{TreeFile, maxOffsets, maxFileTargets}
+use Rattle.treefile.specs.Flat.{FewRanges}
+use Rattle.treereport.specs.Reports.{fileTests, Judged}
+use Rattle.treereport.specs.Filing.{fileOf, FileAsks, TreeAsks}
+
+-- the logarithm of a number up to 1,024 is at most 10
+log2-ten : (n : ℕ) → n ≤ 1_024 → log2 n ≤ 10
+log2-ten n h =
+    by-cases (decLe (log2 n) 10) (λ p. p)
+    (λ q. by-cases (decLe 1 n)
+    (λ some.
+    let two : 0 < 2 = omega arith in
+    let above : 11 ≤ log2 n = omega arith in
+    let high : 2 ^ 11 ≤ 2 ^ log2 n = pow-le-pow-right two above in
+    let low = log2-low n some in
+    absurd (omega arith))
+    (λ none. absurd (let e = log2-small n (omega arith) in omega arith)))
+
+found-list : (f : Found) (l : List PathRange) → fromFound f ≡ listed l → f ≡ found l
+found-list lost l e = absurd (let z : _≡_ {A = ℕ} 0 1 = cc in omega arith)
+found-list (found m) l e = let s : m ≡ l = cc in ap found s
+
+-- no path on the tables of a tree of at most 1,024 vertices has more than 21 ranges
+pub few-ranges : {n root : ℕ} {A : ℕ → List ℕ} {t : Six} {kids : ℕ → List ℕ} → NumberingOf n A root t kids → n ≤ 1_024 → FewRanges t
+unfolding maxVertices rangesOf
+few-ranges {n} {root} {A} {t} {kids} N h k u v l e =
+    ⊎-elim
+    (λ b.
+    let is : fromFound (pathRanges k n t u v) ≡ listed l = sym (answered G (u ∷ v ∷ []) refused (λ (m : ℕ). fromFound (pathRanges k m t u v)) b) ∙ e in
+    let r = ranges-room G k (b .0) (b .1 .0) l (found-list (pathRanges k n t u v) l is) in
+    let t = log2-ten n h in
+    omega arith)
+    (λ w. absurd (never (rangesOf k t u v) e w))
+    (asked-or-refused G (u ∷ v ∷ []) refused (fromFound (pathRanges k (sizeOf t) t u v)))
+  where
+    G : Given n A root t kids
+    G = record { tables = N; limit = omega arith }
+
+    never : (a : Answered) → a ≡ listed l → a ≡ refused BadVertex → ⊥
+    never a p q = let z : _≡_ {A = ℕ} 0 1 = cc in omega arith
+
+-- where tables and work fit, the tests of a build are those of the graph
+pub file-tests : (f : TreeFile) {t : Six} {room c : ℕ} → Long (vertices (f .offsets)) t → roomOf (f .offsets) (f .targets) ≤ room
+    → First (building (f .offsets) (f .targets) (f .root) t room) c → First (fileTests f) c
+file-tests f long room (inl p) = inl ((λ s. p .0 (record { sized = s; tables = long })), p .1)
+file-tests f long room (inr (fits, inl p)) = absurd (p .0 room)
+file-tests f long room (inr (fits, inr (r, rest))) = inr (fits .sized, rest)
+
+-- a file has at most 1,024 vertices, for which the program's tables and work are long enough
+pub few-vertices : {os ts qs out : List ℕ} {count : ℕ} → FileAsks os ts qs count out → vertices os ≤ 1_024
+unfolding maxOffsets
+few-vertices a = omega (arith, a .few-offsets)
+
+pub work-room : {os ts qs out : List ℕ} {count : ℕ} → FileAsks os ts qs count out → roomOf os ts ≤ 10_240
+unfolding maxOffsets maxFileTargets
+work-room a = omega (arith, a .few-offsets, a .few-targets)
+
+-- what the build answers of a file's tree
+pub judged : {os ts : List ℕ} {root : ℕ} {qs out : List ℕ} {count : ℕ} {t t′ : Six} {w w′ : List ℕ} {c : ℕ} → TreeAsks os ts t qs count out → 10_240 ≤ length w
+    → Builds os ts root t w t′ w′ c → Judged (fileOf os ts root qs count) c t′
+judged {os} {ts} {root} {qs} {count = count} a long b =
+    let r = work-room (a .file) in
+    record { first = file-tests (fileOf os ts root qs count) (a .long) (omega arith) (b .code); built = b .built }
+
+-- parts of n entries of the program's own tables
+pub tree-asks : {os ts qs out : List ℕ} {count n : ℕ} (l : List ℕ) → length l ≡ 1_024 → n ≡ vertices os → FileAsks os ts qs count out
+    → TreeAsks os ts (six (take n l) (take n l) (take n l) (take n l) (take n l) (take n l)) qs count out
+tree-asks {os} {n = n} l e is a =
+    let v = few-vertices a in
+    let long : length (take n l) ≡ vertices os = length-take-le n l (omega arith) ∙ is in
+    record { long = record { parent = long; depth = long; head = long; id = long; order = long; size = long }; file = a }

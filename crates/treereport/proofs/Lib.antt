@@ -1,0 +1,6 @@
+pub mod Texts
+pub mod Placing
+pub mod Building
+pub mod Telling
+pub mod Files
+pub mod Meaning

@@ -1,0 +1,118 @@
+// The answer to one query, as text.
+use climb::answers::Answer;
+use climb::queries::distance;
+use climb::queries::jump;
+use climb::queries::kth_ancestor;
+use climb::queries::lca;
+use climb::sizes::subtree_size;
+use ranges::kinds::Listed;
+use ranges::lists::edge_path_ranges;
+use ranges::lists::vertex_edge_path_ranges;
+use ranges::lists::vertex_path_ranges;
+use treefile::lines::put_answer;
+use treefile::lines::put_list;
+ghost use mathlib.Core.Path.{_≡_};
+ghost use Rattle.tables.specs.Tables.{six};
+ghost use Rattle.ranges.specs.Calls.{rangesOf};
+ghost use Rattle.ranges.specs.Inner.{ListedAs};
+ghost use Rattle.treefile.specs.Report.{listText, answerText};
+ghost use Rattle.treefile.specs.Writing.{Puts};
+ghost use Rattle.treereport.specs.Answering.{query, numberOf, kindOf, PathAsks, AnswerAsks};
+
+// Numbers for the 21 ranges that a path among 1,024 vertices can have.
+const RANGE_NUMBERS: usize = 63;
+
+// The answer to a query of the kinds 1 to 5.
+fn number_answer(
+    parent: &[u32],
+    depth: &[u32],
+    head: &[u32],
+    id: &[u32],
+    order: &[u32],
+    size: &[u32],
+    kind: usize,
+    a: usize,
+    b: usize,
+    c: usize,
+) -> Answer
+    ensures { λ r. ⌜ r ≡ numberOf (six (now (parent .entry)) (now (depth .entry)) (now (head .entry)) (now (id .entry)) (now (order .entry)) (now (size .entry))) (query kind a b c) ⌝ }
+{
+    match kind {
+        1 => distance(parent, depth, head, id, order, size, a, b),
+        2 => lca(parent, depth, head, id, order, size, a, b, c),
+        3 => kth_ancestor(parent, depth, head, id, order, size, a, b),
+        4 => jump(parent, depth, head, id, order, size, a, b, c),
+        _ => subtree_size(parent, depth, head, id, order, size, a, b),
+    }
+}
+
+// The ranges of a query of the kinds 6 to 8, put into a lent list.
+fn path_answer(
+    parent: &[u32],
+    depth: &[u32],
+    head: &[u32],
+    id: &[u32],
+    order: &[u32],
+    size: &[u32],
+    kind: usize,
+    a: usize,
+    b: usize,
+    flat: &mut [u32],
+) -> Listed
+    ensures { λ r. ⌜ ListedAs (rangesOf (kindOf kind) (six (now (parent .entry)) (now (depth .entry)) (now (head .entry)) (now (id .entry)) (now (order .entry)) (now (size .entry))) a b) (now (flat .entry)) (now (flat .exit)) r ⌝ }
+{
+    match kind {
+        6 => vertex_path_ranges(parent, depth, head, id, order, size, a, b, flat),
+        7 => edge_path_ranges(parent, depth, head, id, order, size, a, b, flat),
+        _ => vertex_edge_path_ranges(parent, depth, head, id, order, size, a, b, flat),
+    }
+}
+
+// The code and the ranges of a query of the kinds 6 to 8. The list is long enough for every path, so no query is refused for want of room.
+fn put_path(
+    parent: &[u32],
+    depth: &[u32],
+    head: &[u32],
+    id: &[u32],
+    order: &[u32],
+    size: &[u32],
+    kind: usize,
+    a: usize,
+    b: usize,
+    out: &mut [u8],
+    at: usize,
+) -> usize
+    requires { ⌜ PathAsks (six (now parent) (now depth) (now head) (now id) (now order) (now size)) (kindOf kind) a b at (now out) ⌝ }
+    ensures { λ r. ⌜ Puts (listText (rangesOf (kindOf kind) (six (now (parent .entry)) (now (depth .entry)) (now (head .entry)) (now (id .entry)) (now (order .entry)) (now (size .entry))) a b)) at (now (out .entry)) (now (out .exit)) r ⌝ }
+{
+    let mut flat = [0u32; RANGE_NUMBERS];
+    let listed = path_answer(parent, depth, head, id, order, size, kind, a, b, &mut flat);
+    put_list(out, at, listed, &flat)
+}
+
+// The code of a query and its answer.
+pub fn answer_query(
+    parent: &[u32],
+    depth: &[u32],
+    head: &[u32],
+    id: &[u32],
+    order: &[u32],
+    size: &[u32],
+    kind: usize,
+    a: usize,
+    b: usize,
+    c: usize,
+    out: &mut [u8],
+    at: usize,
+) -> usize
+    requires { ⌜ AnswerAsks (six (now parent) (now depth) (now head) (now id) (now order) (now size)) (query kind a b c) at (now out) ⌝ }
+    ensures { λ r. ⌜ Puts (answerText (six (now (parent .entry)) (now (depth .entry)) (now (head .entry)) (now (id .entry)) (now (order .entry)) (now (size .entry))) (query kind a b c)) at (now (out .entry)) (now (out .exit)) r ⌝ }
+{
+    match kind {
+        1..=5 => {
+            let answer = number_answer(parent, depth, head, id, order, size, kind, a, b, c);
+            put_answer(out, at, answer)
+        }
+        _ => put_path(parent, depth, head, id, order, size, kind, a, b, out, at),
+    }
+}
