@@ -4,6 +4,7 @@
 mod asked;
 mod calls;
 mod centroids;
+mod components;
 mod labelled;
 mod listed;
 mod lists;
@@ -14,9 +15,11 @@ mod tables;
 mod tally;
 
 use asked::{distance, jump, kth_ancestor, lca, subtree_size};
-use calls::{original_graph, Lent};
+use calls::{original_graph, Lent, DONE};
+use components::Filled;
 use listed::{range_room, KINDS};
 use lists::Lists;
+use original::graph::Graph;
 use original::hld::Hld;
 use random::Random;
 use shapes::{graph, SHAPES};
@@ -70,6 +73,26 @@ fn builds(n: usize, shape: &str, lists: &Lists) {
         || (0..k).for_each(|_| drop(black_box(graph.try_centroid_decomposition()))),
     );
     line(n, shape, "try_centroid_decomposition", k, found);
+    let made = graph.try_centroid_decomposition();
+    let made = made.unwrap_or_else(|_| panic!("the lists of a tree"));
+    let total: usize = (0..n).map(|v| made.level(v) + 1).sum();
+    let mut filled = Filled::unwritten(total, n + 1);
+    let found = race(
+        || (0..k).for_each(|_| assert_eq!(DONE, lent.list_again(&mut filled))),
+        || (0..k).for_each(|_| listed(&graph)),
+    );
+    line(n, shape, "component_lists", k, found);
+}
+
+// The original's way to the same lists: the decomposition, and then each component.
+fn listed(graph: &Graph<()>) {
+    let made = graph.try_centroid_decomposition();
+    let made = made.unwrap_or_else(|_| panic!("the lists of a tree"));
+    let mut sum = 0;
+    made.for_each_component(graph, |c, whole, branches| {
+        sum += c + whole.len() + branches.len()
+    });
+    black_box(sum);
 }
 
 type Arguments = [usize; 3];
@@ -160,24 +183,42 @@ fn queries(n: usize, shape: &str, tables: &Tables, hld: &Hld, random: &mut Rando
     }
 }
 
-// The slowest refusals beside an acceptance of the same size.
+// A tree's lists with one thing wrong, as far towards their end as can be: the last offset, the last target, a target that makes the lists
+// uneven.
+fn damaged(lists: &Lists, what: &str) -> Lent {
+    let (mut offsets, mut targets) = (lists.offsets(), lists.targets());
+    let (n, e) = (lists.vertices() as u32, targets.len());
+    match what {
+        "3, last offset" => offsets[n as usize] -= 1,
+        "4, last target" => targets[e - 1] = n,
+        _ => targets[e - 1] = (targets[e - 1] + 1) % n,
+    }
+    Lent::of(offsets, targets)
+}
+
+// One refusal beside the acceptance of a tree of the same size.
+fn refusal(n: usize, shape: &str, what: &str, tree: &Lists, mut bad: Lent, root: usize) {
+    let mut good = Lent::new(tree);
+    let (mut tables, mut more) = (Tables::unwritten(n), Tables::unwritten(n));
+    let k = times(n);
+    let found = race(
+        || (0..k).for_each(|_| assert_ne!(DONE, bad.build_again(root, &mut tables))),
+        || (0..k).for_each(|_| assert_eq!(DONE, good.build_again(0, &mut more))),
+    );
+    line(n, shape, &format!("refused {what}"), k, found);
+}
+
 fn refusals(n: usize, random: &mut Random) {
-    for what in ["added", "removed", "doubled", "self", "parted"] {
-        for shape in SHAPES {
-            let tree = graph(shape, "none", n, random);
+    for shape in SHAPES {
+        let tree = graph(shape, "none", n, random);
+        for what in ["3, last offset", "4, last target", "6, last target"] {
+            refusal(n, shape, what, &tree, damaged(&tree, what), 0);
+        }
+        refusal(n, shape, "5", &tree, Lent::new(&tree), n);
+        for (what, code) in [("removed", "7"), ("parted", "7"), ("self", "8")] {
             let other = graph(shape, what, n, random);
-            if other.entries() > calls::MAX_TARGETS {
-                continue;
-            }
-            let (mut good, mut bad) = (Lent::new(&tree), Lent::new(&other));
-            let mut tables = Tables::unwritten(n);
-            let mut more = Tables::unwritten(n);
-            let k = times(n);
-            let found = race(
-                || (0..k).for_each(|_| drop(black_box(bad.build_again(0, &mut tables)))),
-                || (0..k).for_each(|_| drop(black_box(good.build_again(0, &mut more)))),
-            );
-            line(n, shape, &format!("refused: {what}"), k, found);
+            let name = format!("{code}, {what}");
+            refusal(n, shape, &name, &tree, Lent::new(&other), 0);
         }
     }
 }
@@ -196,5 +237,5 @@ fn main() {
         }
     }
     println!("     n shape        what                  refused, ns   accepted, ns  ratio");
-    refusals(32_768, &mut random);
+    refusals(32_700, &mut random);
 }
