@@ -36,7 +36,7 @@ fn remove_level(
 }
 
 // Removes all vertices of the tree, one centroid after the other, and writes the level of each.
-pub fn find_levels(offsets: &[u32], targets: &[u32], n: usize, work: &mut [u32])
+pub(crate) fn find_levels(offsets: &[u32], targets: &[u32], n: usize, work: &mut [u32])
     requires { ⌜ FindAsks (now offsets) (now targets) n (now work) ⌝ }
     ensures { λ r. ⌜ LevelsFound (now (offsets .entry)) (now (targets .entry)) n (now (work .entry)) (now (work .exit)) ⌝ }
 {
@@ -53,7 +53,7 @@ pub fn find_levels(offsets: &[u32], targets: &[u32], n: usize, work: &mut [u32])
 }
 
 // The length of all lists together: the sum of level + 1 over the vertices.
-pub fn total_room(n: usize, work: &[u32]) -> usize
+pub(crate) fn total_room(n: usize, work: &[u32]) -> usize
     requires { ⌜ TotalAsks n (now work) ⌝ }
     ensures { λ r. ⌜ r ≡ totalIn n (now (work .entry)) ⌝ }
 {

@@ -137,7 +137,7 @@ fn list_component(
 }
 
 // Lists the components of all vertices one behind the other, and writes where each begins and where the last ends.
-pub fn list_all(
+pub(crate) fn list_all(
     offsets: &[u32],
     targets: &[u32],
     n: usize,

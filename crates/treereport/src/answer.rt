@@ -91,7 +91,7 @@ fn put_path(
 }
 
 // The code of a query and its answer.
-pub fn answer_query(
+pub(crate) fn answer_query(
     parent: &[u32],
     depth: &[u32],
     head: &[u32],

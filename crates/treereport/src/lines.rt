@@ -88,7 +88,7 @@ fn put_query_at(
 }
 
 // The lines of the first queries of a plain list.
-pub fn put_queries(
+pub(crate) fn put_queries(
     parent: &[u32],
     depth: &[u32],
     head: &[u32],
