@@ -1,0 +1,102 @@
+-- The decomposition and the component lists of a tree, by its simple paths.
+use Prim.Native.Nat.{ℕ, suc, _+_, _≤_, _<_}
+use native.Mathlib.Omega.{arith}
+use native.Mathlib.Numerals.{add-one}
+use native.Mathlib.Nat.{le-trans}
+use mathlib.Core.Path.{_≡_, refl, sym, ap, _∙_}
+use mathlib.Core.List.{List, map}
+use lib.ListN.{length, drop, length-append, List·getD-append}
+use lib.Seq.{slice}
+use Rattle.sums.specs.Sum.{at}
+use Rattle.paths.specs.Walk.{Stands}
+use Rattle.paths.specs.Rooted.{Spans}
+use Rattle.paths.specs.Route.{ptail}
+use Rattle.paths.proofs.Unique.{path-simple}
+use Rattle.graph.specs.Codes.{done}
+use Rattle.graph.specs.Limits.{maxVertices}
+use Rattle.graph.specs.Lent.{vertices, listOf}
+use Rattle.centroid.specs.Decomposition.{DecompositionOf}
+use Rattle.centroid.specs.Lists.{branchOf, joined, ListsOf}
+use Rattle.centroid.specs.Calls.{decomposing, Decomposes, listing, Front, Lists}
+use Rattle.centroidlaws.proofs.Before.{Listed}
+use Rattle.centroidlaws.proofs.Passed.{all-passed}
+use Rattle.centroidlaws.proofs.Parts.{no-parent-above, parent-part}
+use Rattle.centroidlaws.proofs.Halving.{level-bound}
+use Rattle.centroidlaws.proofs.SameLists.{joined-map, list-holds, lists-total}
+use Rattle.centroidlaws.proofs.Determined.{decomposing-passed, listing-passed}
+use Rattle.demands.specs.Centroids.{Centroids, ComponentLists}
+use Rattle.demands.proofs.Parts.{joined-part}
+
+-- the decomposition, by the paths of one rooting
+centroids-of : {n : ℕ} {A : ℕ → List ℕ} {par dep : ℕ → ℕ} {up level : List ℕ} → n ≤ maxVertices → Spans n (Stands A) 0 par dep
+    → DecompositionOf n A up level → Centroids n A up level
+centroids-of {par = par} {dep = dep} few S D = record {
+  up-long = D .up-long;
+  level-long = D .level-long;
+  way = ptail par dep;
+  simple = λ hu hv. path-simple S hu hv;
+  centroid = λ {c} hc. D .centroids par dep S c hc;
+  part = λ hc hp x hx. parent-part (le-trans few no-parent-above) S D hc hp .part x hx;
+  level-bound = λ hc. level-bound S D hc .1;
+}
+
+-- what `try_centroid_decomposition` leaves
+pub centroids :
+    {os ts up level w up′ level′ w′ : List ℕ} → Decomposes os ts up level w up′ level′ w′ done → Centroids (vertices os) (listOf os ts) up′ level′
+centroids {os} {ts} {up} {level} {w} p =
+    let f = all-passed (decomposing os ts up level (length w)) (omega arith) (p .code) .0 in
+    let g = decomposing-passed os ts up level (length w) (p .code) in
+    centroids-of (f .sized .few-vertices) (g .listed .spans) (p .written refl)
+
+module _
+    {n : ℕ} {A : ℕ → List ℕ} {par dep : ℕ → ℕ} (few : n ≤ maxVertices) (T : Listed n A par dep)
+    (vs ds bs ss : List ℕ) {vs′ ds′ bs′ ss′ l₁ l₂ l₃ l₄ : List ℕ} (L : ListsOf n A l₁ l₂ l₃ l₄)
+    (f₁ : Front l₁ vs vs′) (f₂ : Front l₂ ds ds′) (f₃ : Front l₃ bs bs′) (f₄ : Front l₄ ss ss′)
+  where
+    -- the start of c is the length of the lists before it
+    start-of : (c : ℕ) → c < n + 1 → at ss′ c ≡ length (joined (L .q) c)
+    start-of c h =
+        let e = L .starts-long in
+        ap (λ (l : List ℕ). at l c) f₄ ∙ List·getD-append l₄ (drop (length l₄) ss) 0 c (omega arith) ∙ L .all-starts c h
+
+    -- and so is the next one
+    start-next : {c : ℕ} → c < n → at ss′ (c + 1) ≡ length (joined (L .q) (suc c))
+    start-next {c} h = start-of (c + 1) (omega arith) ∙ ap (λ (k : ℕ). length (joined (L .q) k)) (add-one c)
+
+    -- the part of c in numbers that are made of the entries
+    made-part : (f : ℕ → ℕ → ℕ) (lent : List ℕ) {l lent′ : List ℕ} {c : ℕ} → c < n → l ≡ joined (λ c. map (f c) (L .q c)) n → Front l lent lent′
+        → slice (at ss′ c) (at ss′ (c + 1)) lent′ ≡ map (f c) (L .q c)
+    made-part f lent {c = c} h e front =
+        joined-part (λ c. map (f c) (L .q c)) n lent h e front
+        (start-of c (omega arith) ∙ sym (joined-map f (L .q) c))
+        (start-next h ∙ sym (joined-map f (L .q) (suc c)))
+
+    -- the component lists, by the paths of one rooting
+    lists-of : ComponentLists n A vs′ ds′ bs′ ss′
+    unfolding centroids-of
+    lists-of = record {
+      up = L .up;
+      level = L .level;
+      decomposition = centroids-of few (T .spans) (L .decomposition);
+      list = L .q;
+      breadth-first = λ {c} hc. L .breadth par dep (T .spans) c hc;
+      component = λ {c} hc. list-holds T L c hc .exactly;
+      each-once = λ {c} hc. list-holds T L c hc .once;
+      first-start = start-of 0 (omega arith);
+      next-start = λ {c} hc.
+          start-next hc ∙ length-append (joined (L .q) c) (L .q c) ∙ ap (λ (k : ℕ). k + length (L .q c)) (sym (start-of c (omega arith)));
+      vertex-part = λ {c} hc. joined-part (L .q) n vs hc (L .all-vertices) f₁ (start-of c (omega arith)) (start-next hc);
+      distance-part = λ hc. made-part (λ c x. length (ptail par dep c x)) ds hc (L .all-distances par dep (T .spans)) f₂;
+      branch-part = λ hc. made-part (branchOf (ptail par dep)) bs hc (L .all-branches par dep (T .spans)) f₃;
+      total = start-of n (omega arith) ∙ sym (ap length (L .all-vertices)) ∙ lists-total T (L .decomposition) L;
+    }
+
+-- what `component_lists` leaves
+pub component-lists :
+    {os ts vs ds bs ss w vs′ ds′ bs′ ss′ w′ : List ℕ} → Lists os ts vs ds bs ss w vs′ ds′ bs′ ss′ w′ done
+    → ComponentLists (vertices os) (listOf os ts) vs′ ds′ bs′ ss′
+component-lists {os} {ts} {vs} {ds} {bs} {ss} {w} p =
+    let f = all-passed (listing os ts vs ds bs ss (length w)) (omega arith) (p .code) .0 in
+    let g = listing-passed os ts vs ds bs ss (length w) (p .code) in
+    let a = p .written refl in
+    lists-of (f .few-vertices) (g .listed) vs ds bs ss (a .4) (a .5) (a .6) (a .7) (a .8)

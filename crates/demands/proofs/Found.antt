@@ -1,0 +1,32 @@
+-- On the tables of a numbering, the calls for ranges answer what the climb finds.
+use Prim.Native.Nat.{ℕ, _<_}
+use native.Mathlib.Omega.{arith}
+use mathlib.Core.Path.{_≡_, sym, ap, _∙_}
+use mathlib.Core.List.{List, [], _∷_}
+use Rattle.tables.specs.Tables.{Six}
+use Rattle.pathlaws.specs.Given.{Given}
+use Rattle.pathlaws.proofs.Standing.{answered}
+use Rattle.ranges.specs.Ranges.{Found, lost, found, pathRanges}
+use Rattle.ranges.specs.Calls.{refused, listed, fromFound, rangesOf}
+use Rattle.ranges.specs.declared.kinds.PathRange.{PathRange}
+use Rattle.ranges.specs.declared.kinds.Kind.{Kind}
+use Rattle.readings.proofs.Found.{ranges-found}
+
+-- an answer of ranges is one of a climb
+answer-found : (f : Found) (l : List PathRange) → fromFound f ≡ listed l → f ≡ found l
+answer-found lost l e = let z : _≡_ {A = ℕ} 0 1 = cc in absurd (omega arith)
+answer-found (found m) l e = cc
+
+module _ {n root : ℕ} {A : ℕ → List ℕ} {t : Six} {kids : ℕ → List ℕ} (G : Given n A root t kids) where
+  -- what is asked between two vertices is what the climb finds
+  asked-found : (kind : Kind) {u v : ℕ} → u < n → v < n → rangesOf kind t u v ≡ fromFound (pathRanges kind n t u v)
+  unfolding rangesOf
+  asked-found kind {u} {v} hu hv = answered G (u ∷ v ∷ []) refused (λ m. fromFound (pathRanges kind m t u v)) (hu, (hv, tt))
+
+  -- ranges that are answered were found
+  pub ranges-of : (kind : Kind) {u v : ℕ} → u < n → v < n → {l : List PathRange} → rangesOf kind t u v ≡ listed l → pathRanges kind n t u v ≡ found l
+  ranges-of kind {u} {v} hu hv {l} e = answer-found (pathRanges kind n t u v) l (sym (asked-found kind hu hv) ∙ e)
+
+  -- ranges that are found are answered
+  pub ranges-there : (kind : Kind) {u v : ℕ} → u < n → v < n → (l : List PathRange) × (rangesOf kind t u v ≡ listed l)
+  ranges-there kind hu hv = let f = ranges-found G kind hu hv in (f .0, asked-found kind hu hv ∙ ap fromFound (f .1))

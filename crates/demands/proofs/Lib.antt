@@ -1,0 +1,10 @@
+pub mod Passed
+pub mod Found
+pub mod Numbers
+pub mod Parts
+pub mod Breadth
+pub mod Fitting
+pub mod Centroids
+pub mod First
+pub mod Second
+pub mod Third

@@ -1,0 +1,120 @@
+-- Tender, condition 1: "Every public call ends without a fault on every input, and gives the refusal that document 01 fixes, with the stated memory
+-- afterwards."
+-- No public call has a `requires`. Its proof then says that it ends without a fault on every input and that its contract holds; so there is nothing
+-- to state of that here. The rest of the sentence is stated of the contracts.
+use Prim.Native.Nat.{ℕ, _+_, _*_, _<_}
+use mathlib.Core.Path.{_≡_}
+use mathlib.Core.Logic.{_≢_, _↔_}
+use mathlib.Core.Bool.{true, false}
+use mathlib.Core.List.{List, []}
+use lib.ListN.{length, drop}
+use Rattle.sums.specs.Sum.{at}
+use Rattle.graph.specs.Codes.{done, noRoom}
+use Rattle.graph.specs.Judgement.{First}
+use Rattle.graph.specs.Lent.{vertices}
+use Rattle.graph.specs.Validation.{Sized, roomOf, validation, Leaves, Validates}
+use Rattle.tables.specs.Tables.{Six}
+use Rattle.hld.specs.Build.{building, Builds, Fits as FitsSix}
+use Rattle.climb.specs.Queries.{sizeOf, tables?, vertices?, asked}
+use Rattle.climb.specs.Answers.{answerCode, answerValues, intervalCode, intervalValues}
+use Rattle.climb.specs.declared.answers.Refusal.{Refusal}
+use Rattle.climb.specs.declared.answers.Refusal.the-variants.{BadSize, BadVertex}
+use Rattle.climb.specs.declared.answers.Answer.{Answer}
+use Rattle.climb.specs.declared.answers.Interval.{Interval}
+use Rattle.ranges.specs.Calls.{Answered, listed, listedCode, listedValues}
+use Rattle.ranges.specs.Inner.{ListedAs}
+use Rattle.ranges.specs.declared.kinds.PathRange.{PathRange}
+use Rattle.ranges.specs.declared.kinds.Listed.{Listed}
+use Rattle.ranges.specs.declared.kinds.Listed.the-variants.{Count}
+use Rattle.records.specs.Records.{RecordedAs}
+use Rattle.centroid.specs.Calls.{Fits, decomposing, Decomposes, listing, Lists}
+
+-- "gives the refusal that document 01 fixes": the code of the first test, in 01's order, that is not passed
+pub record Refusals : Type 1 where
+  pub validate-tree : {os ts w w′ : List ℕ} {root c : ℕ} → Validates os ts root w w′ c → First (validation os ts root (length w)) c
+  pub try-hld : {os ts w w′ : List ℕ} {root c : ℕ} {t t′ : Six} → Builds os ts root t w t′ w′ c → First (building os ts root t (length w)) c
+  pub decomposition :
+      {os ts up level w up′ level′ w′ : List ℕ} {c : ℕ} → Decomposes os ts up level w up′ level′ w′ c → First (decomposing os ts up level (length w)) c
+  pub component-lists :
+      {os ts vs ds bs ss w vs′ ds′ bs′ ss′ w′ : List ℕ} {c : ℕ} → Lists os ts vs ds bs ss w vs′ ds′ bs′ ss′ w′ c
+      → First (listing os ts vs ds bs ss (length w)) c
+  -- "A query tests 1, then 4": each query, with the vertices vs as arguments, is `asked t vs ..`
+  pub size-first : {X : Type 0} (t : Six) (vs : List ℕ) (refused : Refusal → X) (answer : X) → tables? t ≡ false → asked t vs refused answer ≡ refused BadSize
+  pub vertex-next :
+      {X : Type 0} (t : Six) (vs : List ℕ) (refused : Refusal → X) (answer : X) → tables? t ≡ true → vertices? (sizeOf t) vs ≡ false
+      → asked t vs refused answer ≡ refused BadVertex
+  -- "2 for lists is last": given to ranges that were found exactly if the list is too short for them
+  pub ranges-room :
+      {l : List PathRange} {lent left : List ℕ} {r : Listed} → ListedAs (listed l) lent left r → (listedCode r ≡ noRoom) ↔ (length lent < 3 * length l)
+  pub records-room :
+      {l lent left : List PathRange} {r : Listed} → RecordedAs (listed l) lent left r → (listedCode r ≡ noRoom) ↔ (length lent < length l)
+  -- "A refused call returns its code and no other number."
+  pub no-number : (a : Answer) → answerCode a ≢ done → answerValues a ≡ []
+  pub no-interval : (a : Interval) → intervalCode a ≢ done → intervalValues a ≡ []
+  pub no-count : (a : Listed) → listedCode a ≢ done → listedValues a ≡ []
+
+-- "It writes no table and no list."
+pub record NothingWritten : Type 0 where
+  pub try-hld : {os ts w w′ : List ℕ} {root c : ℕ} {t t′ : Six} → Builds os ts root t w t′ w′ c → c ≢ done → t′ ≡ t
+  pub decomposition :
+      {os ts up level w up′ level′ w′ : List ℕ} {c : ℕ} → Decomposes os ts up level w up′ level′ w′ c → c ≢ done → (up′ ≡ up) × (level′ ≡ level)
+  pub component-lists :
+      {os ts vs ds bs ss w vs′ ds′ bs′ ss′ w′ : List ℕ} {c : ℕ} → Lists os ts vs ds bs ss w vs′ ds′ bs′ ss′ w′ c
+      → c ≢ done → (vs′ ≡ vs) × (ds′ ≡ ds) × (bs′ ≡ bs) × (ss′ ≡ ss)
+  pub ranges : {a : Answered} {lent left : List ℕ} {r : Listed} → ListedAs a lent left r → listedCode r ≢ done → left ≡ lent
+  pub range-records : {a : Answered} {lent left : List PathRange} {r : Listed} → RecordedAs a lent left r → listedCode r ≢ done → left ≡ lent
+
+-- "Entries of a list past its count are unchanged."
+pub record PastCount : Type 0 where
+  pub ranges : {a : Answered} {lent left : List ℕ} {k : ℕ} → ListedAs a lent left (Count k) → drop (3 * k) left ≡ drop (3 * k) lent
+  pub range-records : {a : Answered} {lent left : List PathRange} {k : ℕ} → RecordedAs a lent left (Count k) → drop k left ≡ drop k lent
+  -- the last of the n+1 starts is the number of entries
+  pub component-lists :
+      {os ts vs ds bs ss w vs′ ds′ bs′ ss′ w′ : List ℕ} → Lists os ts vs ds bs ss w vs′ ds′ bs′ ss′ w′ done
+      → let n = vertices os in
+      let k = at ss′ n in
+      (drop k vs′ ≡ drop k vs) × (drop k ds′ ≡ drop k ds) × (drop k bs′ ≡ drop k bs) × (drop (n + 1) ss′ ≡ drop (n + 1) ss)
+
+-- "Once the work room was long enough, the first 8n+E entries of work are zero afterwards, on any answer; the rest of work, and all of it before that
+-- test, is unchanged."
+pub record WorkLeft : Type 0 where
+  pub validate-tree : {os ts w w′ : List ℕ} {root c : ℕ} → Validates os ts root w w′ c → Leaves (Sized os ts) (roomOf os ts) w w′
+  pub try-hld : {os ts w w′ : List ℕ} {root c : ℕ} {t t′ : Six} → Builds os ts root t w t′ w′ c → Leaves (FitsSix os ts t) (roomOf os ts) w w′
+  pub decomposition :
+      {os ts up level w up′ level′ w′ : List ℕ} {c : ℕ} → Decomposes os ts up level w up′ level′ w′ c → Leaves (Fits os ts up level) (roomOf os ts) w w′
+  pub component-lists :
+      {os ts vs ds bs ss w vs′ ds′ bs′ ss′ w′ : List ℕ} {c : ℕ} → Lists os ts vs ds bs ss w vs′ ds′ bs′ ss′ w′ c → Leaves (Sized os ts) (roomOf os ts) w w′
+
+-- 01, "How much a contract must tie down": "That two results allowed by it coincide is proved".
+pub record Determined : Type 1 where
+  pub validate-tree :
+      {os ts w w₁ w₂ : List ℕ} {root c₁ c₂ : ℕ} → Validates os ts root w w₁ c₁ → Validates os ts root w w₂ c₂
+      → (c₁ ≡ c₂) × (w₁ ≡ w₂)
+  pub try-hld :
+      {os ts w w₁ w₂ : List ℕ} {root c₁ c₂ : ℕ} {t t₁ t₂ : Six} → Builds os ts root t w t₁ w₁ c₁ → Builds os ts root t w t₂ w₂ c₂
+      → (c₁ ≡ c₂) × (t₁ ≡ t₂) × (w₁ ≡ w₂)
+  pub decomposition :
+      {os ts up level w up₁ level₁ w₁ up₂ level₂ w₂ : List ℕ} {c₁ c₂ : ℕ}
+      → Decomposes os ts up level w up₁ level₁ w₁ c₁ → Decomposes os ts up level w up₂ level₂ w₂ c₂
+      → (c₁ ≡ c₂) × (up₁ ≡ up₂) × (level₁ ≡ level₂) × (w₁ ≡ w₂)
+  pub component-lists :
+      {os ts vs ds bs ss w vs₁ ds₁ bs₁ ss₁ w₁ vs₂ ds₂ bs₂ ss₂ w₂ : List ℕ} {c₁ c₂ : ℕ}
+      → Lists os ts vs ds bs ss w vs₁ ds₁ bs₁ ss₁ w₁ c₁ → Lists os ts vs ds bs ss w vs₂ ds₂ bs₂ ss₂ w₂ c₂
+      → (c₁ ≡ c₂) × (vs₁ ≡ vs₂) × (ds₁ ≡ ds₂) × (bs₁ ≡ bs₂) × (ss₁ ≡ ss₂) × (w₁ ≡ w₂)
+  pub ranges :
+      {a : Answered} {lent left₁ left₂ : List ℕ} {r₁ r₂ : Listed} → ListedAs a lent left₁ r₁ → ListedAs a lent left₂ r₂
+      → (r₁ ≡ r₂) × (left₁ ≡ left₂)
+  pub range-records :
+      {a : Answered} {lent left₁ left₂ : List PathRange} {r₁ r₂ : Listed} → RecordedAs a lent left₁ r₁ → RecordedAs a lent left₂ r₂
+      → (r₁ ≡ r₂) × (left₁ ≡ left₂)
+  -- the other calls write nothing, and their contracts are equations: the answer is the definition of the call at its arguments (the ten queries, the
+  -- two reads of a decomposition, `neighbours`, `range_room`, `rule_part`)
+  pub queries : {X : Type 0} {answer r₁ r₂ : X} → r₁ ≡ answer → r₂ ≡ answer → r₁ ≡ r₂
+
+pub record FirstDemand : Type 1 where
+  pub refusals : Refusals
+  pub determined : Determined
+  -- "the stated memory afterwards"
+  pub nothing-written : NothingWritten
+  pub past-count : PastCount
+  pub work-left : WorkLeft

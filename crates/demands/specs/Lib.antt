@@ -1,0 +1,5 @@
+pub mod First
+pub mod Numbers
+pub mod Centroids
+pub mod Second
+pub mod Third
