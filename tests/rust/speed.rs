@@ -4,6 +4,7 @@
 mod asked;
 mod calls;
 mod centroids;
+#[cfg(not(lifted))]
 mod components;
 mod labelled;
 mod listed;
@@ -16,8 +17,9 @@ mod tally;
 
 use asked::{distance, jump, kth_ancestor, lca, subtree_size};
 use calls::{original_graph, Lent, DONE};
+#[cfg(not(lifted))]
 use components::Filled;
-use listed::{range_room, KINDS};
+use listed::KINDS;
 use lists::Lists;
 use original::graph::Graph;
 use original::hld::Hld;
@@ -47,7 +49,7 @@ fn race(mut ours: impl FnMut(), mut theirs: impl FnMut()) -> (f64, f64) {
 fn line(n: usize, shape: &str, what: &str, each: usize, (ours, theirs): (f64, f64)) {
     let (ours, theirs) = (ours / each as f64, theirs / each as f64);
     println!(
-        "{n:6} {shape:12} {what:24} {ours:12.1} {theirs:12.1} {:6.2}",
+        "{n:7} {shape:12} {what:27} {ours:12.1} {theirs:12.1} {:6.2}",
         ours / theirs
     );
 }
@@ -73,18 +75,26 @@ fn builds(n: usize, shape: &str, lists: &Lists) {
         || (0..k).for_each(|_| drop(black_box(graph.try_centroid_decomposition()))),
     );
     line(n, shape, "try_centroid_decomposition", k, found);
+    #[cfg(not(lifted))]
+    components(n, shape, &graph, &mut lent);
+}
+
+#[cfg(not(lifted))]
+fn components(n: usize, shape: &str, graph: &Graph<()>, lent: &mut Lent) {
+    let k = times(n);
     let made = graph.try_centroid_decomposition();
     let made = made.unwrap_or_else(|_| panic!("the lists of a tree"));
     let total: usize = (0..n).map(|v| made.level(v) + 1).sum();
     let mut filled = Filled::unwritten(total, n + 1);
     let found = race(
         || (0..k).for_each(|_| assert_eq!(DONE, lent.list_again(&mut filled))),
-        || (0..k).for_each(|_| listed(&graph)),
+        || (0..k).for_each(|_| listed(graph)),
     );
     line(n, shape, "component_lists", k, found);
 }
 
 // The original's way to the same lists: the decomposition, and then each component.
+#[cfg(not(lifted))]
 fn listed(graph: &Graph<()>) {
     let made = graph.try_centroid_decomposition();
     let made = made.unwrap_or_else(|_| panic!("the lists of a tree"));
@@ -167,7 +177,7 @@ fn queries(n: usize, shape: &str, tables: &Tables, hld: &Hld, random: &mut Rando
         |[r, v, _]| subtree_size(t, r, v).1,
         |[r, v, _]| hld.subtree_size(r, v),
     );
-    let room = 3 * range_room(n).1;
+    let room = 3 * (2 * n.ilog2() as usize + 1);
     for kind in &KINDS {
         let list = std::cell::RefCell::new(vec![0; room]);
         query(
@@ -224,9 +234,15 @@ fn refusals(n: usize, random: &mut Random) {
 }
 
 fn main() {
+    let lifted = std::env::args().any(|word| word == "--large");
+    let sizes: &[usize] = if lifted {
+        &[1_000_000]
+    } else {
+        &[1_024, 32_768]
+    };
     let mut random = Random::new(8);
-    println!("     n shape        what                     ours, ns     theirs, ns  ratio");
-    for n in [1_024, 32_768] {
+    println!("      n shape        what                          ours, ns     theirs, ns  ratio");
+    for &n in sizes {
         for shape in SHAPES {
             let lists = graph(shape, "none", n, &mut random);
             builds(n, shape, &lists);
@@ -236,6 +252,10 @@ fn main() {
             queries(n, shape, &tables, &hld, &mut random);
         }
     }
-    println!("     n shape        what                  refused, ns   accepted, ns  ratio");
-    refusals(32_700, &mut random);
+    if !lifted {
+        println!(
+            "      n shape        what                       refused, ns   accepted, ns  ratio"
+        );
+        refusals(32_700, &mut random);
+    }
 }
