@@ -38,7 +38,7 @@ extern "C" {
 /* Codes. A call answers that of the first test that is not passed, in this order. */
 #define RELAYPATH_DONE 0          /* all tests are passed */
 #define RELAYPATH_BAD_SIZE 1      /* fewer than two offsets, n or E above its limit, or a table not of n entries */
-#define RELAYPATH_NO_ROOM 2       /* work has fewer than 8n + E entries, or a list has too few */
+#define RELAYPATH_NO_ROOM 2       /* work has fewer than 8n + E entries, or starts or a list has too few */
 #define RELAYPATH_BAD_OFFSETS 3   /* the first offset is not 0, an offset falls, or the last is not E */
 #define RELAYPATH_BAD_VERTEX 4    /* a target, or a vertex argument of a query, is n or more */
 #define RELAYPATH_BAD_ROOT 5      /* the root is n or more */

@@ -18,6 +18,7 @@ static void run_round(const struct rooms *rooms, struct random random, struct gr
     some_graph(&random, graph);
     for (lending.side = AT_END; lending.side < SIDES; lending.side++) {
         run_graph(&lending, random, graph);
+        run_components(&lending, random, graph);
     }
     some_tables(&random, graph, tables);
     for (lending.side = AT_END; lending.side < SIDES; lending.side++) {

@@ -1,7 +1,4 @@
-/*
- * The calls that take a graph and work. The component lists belong here once the library has them: a name in report.h, a case in `call_on`, their
- * tables in `tables_of`. Their NoRoom for `starts` or for a list comes after that for work, and then leaves work zero (`work_is_kept`).
- */
+/* The calls that take a graph, work and tables of n entries. The component lists, whose lengths differ, are in components.c. */
 #include "lend.h"
 #include "report.h"
 #include <relaypath.h>
@@ -80,9 +77,8 @@ static uint64_t sum(uint32_t code, enum call call, const struct lent *l) {
 
 /* Lengths of work and tables: mostly right, else short, long or anything. */
 static void draw_lengths(struct random *random, const struct graph *graph, struct lent *l) {
-    size_t n = graph->offsets.len < 2 ? 0 : graph->offsets.len - 1, room = 8 * n + graph->targets.len;
-    const size_t lens[] = {room, room, room + 1 + below(random, 5), room - (room > 0), below(random, room + 1), 0, room + 64};
-    l->work_len = lens[below(random, once_in(random, 4) ? 7 : 3)];
+    size_t n = graph->offsets.len < 2 ? 0 : graph->offsets.len - 1;
+    l->work_len = some_length(random, RELAYPATH_WORK_ROOM(n, graph->targets.len));
     size_t odd = once_in(random, 6) ? below(random, TABLES) : TABLES;
     for (size_t table = 0; table < TABLES; table++) {
         const size_t others[] = {n + 1, n - (n > 0), 0, below(random, 40)};

@@ -1,7 +1,7 @@
 #include "lend.h"
 #include <string.h>
 
-enum { WORK_ROOM = 10 * CAPACITY };
+enum { WORK_ROOM = 10 * CAPACITY, LIST_ROOM = MAX_ENTRIES + 128 };
 
 struct rooms rooms_open(void) {
     struct rooms rooms;
@@ -11,6 +11,9 @@ struct rooms rooms_open(void) {
     for (int table = 0; table < TABLES; table++) {
         rooms.read[table] = room_open(bytes, true);
         rooms.written[table] = room_open(bytes, false);
+    }
+    for (int list = 0; list < LISTS; list++) {
+        rooms.lists[list] = room_open(LIST_ROOM * sizeof(uint32_t), false);
     }
     rooms.work = room_open(WORK_ROOM * sizeof(uint32_t), false);
     rooms.list = room_open(bytes, false);
@@ -44,4 +47,9 @@ size_t *lend_number(const struct lending *lending, int which) {
     size_t *number = (size_t *)(void *)seen(room, lending->side, sizeof(size_t) / sizeof(uint32_t));
     *number = number_mark(lending);
     return number;
+}
+
+size_t some_length(struct random *random, size_t need) {
+    const size_t lengths[] = {need, need, need + 1 + below(random, 5), need - (need > 0), below(random, need + 1), 0, need + 64};
+    return lengths[below(random, once_in(random, 4) ? 7 : 3)];
 }

@@ -10,6 +10,7 @@ struct rooms {
     struct room offsets, targets;
     struct room read[TABLES];
     struct room written[TABLES];
+    struct room lists[LISTS];
     struct room work, list;
     struct room numbers[2];
 };
@@ -34,8 +35,12 @@ uint32_t *lend_marks(const struct lending *lending, const struct room *room, siz
 size_t *lend_number(const struct lending *lending, int which);
 size_t number_mark(const struct lending *lending);
 
+/* A length where so many entries are needed: mostly enough, else short or anything. */
+size_t some_length(struct random *random, size_t need);
+
 /* Each kind of call, run on the memory so lent. */
 void run_graph(const struct lending *lending, struct random random, const struct graph *graph);
+void run_components(const struct lending *lending, struct random random, const struct graph *graph);
 void run_queries(const struct lending *lending, struct random random, const struct tables *tables);
 void run_others(const struct lending *lending, struct random random, const struct tables *tables);
 

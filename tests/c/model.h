@@ -35,4 +35,22 @@ size_t floor_log2(size_t n);
 enum { MODEL_VERTICES = 64 };
 uint32_t model_graph(const struct array *offsets, const struct array *targets, size_t root, size_t work_len);
 
+/* The levels of the centroids of a tree of at most MODEL_VERTICES vertices. */
+void model_levels(const struct array *offsets, const struct array *targets, uint32_t *levels);
+
+/* What the component lists write, in the order of the call's parameters. */
+enum { VERTICES, DISTANCES, BRANCHES, STARTS, LISTS };
+
+/* 32,768 * (15 + 1) entries are enough for each list. */
+enum { MAX_ENTRIES = 16 * 32768 };
+
+/* The lists, one behind the other, the starts, and how many entries there are of each. */
+struct lists {
+    size_t counts[LISTS];
+    uint32_t entries[LISTS][MAX_ENTRIES];
+};
+
+/* The component lists of a tree whose centroids have these levels. */
+void model_lists(const struct array *offsets, const struct array *targets, const uint32_t *levels, struct lists *lists);
+
 #endif

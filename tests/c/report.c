@@ -9,6 +9,7 @@ static const char *const names[CALLS] = {
     "validate_tree",
     "try_hld",
     "try_centroid_decomposition",
+    "component_lists",
     "vertex_count",
     "root",
     "depth",

@@ -33,7 +33,7 @@ mod raw;
 mod refusal;
 mod tables;
 
-pub use centroids::Decomposition;
+pub use centroids::{component_room, Component, ComponentLists, Components, Decomposition};
 pub use graph::{validate_tree, work_room};
 pub use ranges::{range_room, read_ranges, rule_part, Direction, PathRange, MAX_RANGES};
 pub use refusal::Refusal;

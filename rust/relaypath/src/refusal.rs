@@ -8,7 +8,7 @@ use std::fmt;
 pub enum Refusal {
     /// Fewer than two offsets, n or E above its limit, or a table that has not n entries.
     BadSize = 1,
-    /// Work has fewer than 8n + E entries, or a list has too few.
+    /// Work has fewer than 8n + E entries, starts have fewer than n + 1, or a list has too few.
     NoRoom = 2,
     /// The first offset is not 0, an offset falls, or the last is not E.
     BadOffsets = 3,

@@ -2,9 +2,9 @@
 mod common;
 
 use common::{graph, path, tree_t, Graph};
-use relaypath::{validate_tree, work_room, Decomposition, Parts, Refusal, Tables};
+use relaypath::{validate_tree, work_room, Components, Decomposition, Parts, Refusal, Tables};
 
-// What validation, the build and, from root 0, the decomposition say of a graph. All three agree.
+// What validation, the build and, from root 0, the decomposition and the component lists say of a graph. All four agree.
 fn judged(graph: &Graph, root: usize) -> Result<(), Refusal> {
     let Graph { offsets, targets } = graph;
     let mut work = vec![7; work_room(offsets, targets) + 1];
@@ -15,6 +15,7 @@ fn judged(graph: &Graph, root: usize) -> Result<(), Refusal> {
     assert_eq!(Tables::build(offsets, targets, root).map(|_| ()), said);
     if root == 0 {
         assert_eq!(Decomposition::build(offsets, targets).map(|_| ()), said);
+        assert_eq!(Components::build(offsets, targets).map(|_| ()), said);
     }
     said
 }

@@ -1,7 +1,7 @@
 //! The calls that take a graph and work.
 use super::names::*;
 use super::outcome;
-use crate::{Parts, Refusal};
+use crate::{ComponentLists, Parts, Refusal};
 
 pub fn validate_tree(
     offsets: &[u32],
@@ -74,6 +74,33 @@ pub fn try_centroid_decomposition(
             parent.len(),
             level.as_mut_ptr(),
             level.len(),
+            work.as_mut_ptr(),
+            work.len(),
+        )
+    })
+}
+
+pub fn component_lists(
+    offsets: &[u32],
+    targets: &[u32],
+    lists: ComponentLists<&mut [u32]>,
+    work: &mut [u32],
+) -> Result<(), Refusal> {
+    // Safety: graph, lists, starts and work are lent as references.
+    outcome(unsafe {
+        relaypath_component_lists(
+            offsets.as_ptr(),
+            offsets.len(),
+            targets.as_ptr(),
+            targets.len(),
+            lists.vertices.as_mut_ptr(),
+            lists.vertices.len(),
+            lists.distances.as_mut_ptr(),
+            lists.distances.len(),
+            lists.branches.as_mut_ptr(),
+            lists.branches.len(),
+            lists.starts.as_mut_ptr(),
+            lists.starts.len(),
             work.as_mut_ptr(),
             work.len(),
         )

@@ -6,7 +6,7 @@
 mod graphs;
 mod names;
 
-pub use graphs::{try_centroid_decomposition, try_hld, validate_tree};
+pub use graphs::{component_lists, try_centroid_decomposition, try_hld, validate_tree};
 
 use crate::{Parts, Refusal};
 use names::*;

@@ -98,6 +98,23 @@ extern "C" {
         work_len: usize,
     ) -> u32;
 
+    pub fn relaypath_component_lists(
+        offsets: *const u32,
+        offsets_len: usize,
+        targets: *const u32,
+        targets_len: usize,
+        vertices: *mut u32,
+        vertices_len: usize,
+        distances: *mut u32,
+        distances_len: usize,
+        branches: *mut u32,
+        branches_len: usize,
+        starts: *mut u32,
+        starts_len: usize,
+        work: *mut u32,
+        work_len: usize,
+    ) -> u32;
+
     pub fn relaypath_centroid_parent(
         parent: *const u32,
         parent_len: usize,
