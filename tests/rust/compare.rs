@@ -1,10 +1,11 @@
 // Holds the proved library against the Rust original on graphs whose lists are symmetric, and shows lists that are not symmetric on which
 // the original accepts, panics or never ends.
 //
-//   compare [--short]           compare; the last line says whether all answers agree
-//   compare --sample FILE       write a sample of the original's answers, for the crate `replay`
-//   compare --sample-hld FILE   write a sample of the original's tables, for the crate `replay_hld`
-//   compare --try NAME          run the original on one entry of the table in uneven.rs (used for those that never end)
+//   compare [--short]             compare; the last line says whether all answers agree
+//   compare --sample FILE         write a sample of the original's answers, for the crate `replay`
+//   compare --sample-hld FILE     write a sample of the original's tables, for the crate `replay_hld`
+//   compare --sample-files FILE   write a sample of tree files and reports, for the crate `replay_files`
+//   compare --try NAME            run the original on one entry of the table in uneven.rs (used for those that never end)
 mod asked;
 mod calls;
 mod centroids;
@@ -17,6 +18,7 @@ mod random;
 mod ranges;
 mod refused;
 mod sample;
+mod sample_files;
 mod sample_hld;
 mod shapes;
 mod small;
@@ -49,11 +51,10 @@ fn main() -> ExitCode {
         ["--short"] => compare(true),
         ["--sample", file] => sample::write(file, &sample::cases()),
         ["--sample-hld", file] => sample::write(file, &sample_hld::cases()),
+        ["--sample-files", file] => sample::write(file, &sample_files::cases()),
         ["--try", name] => uneven::try_one(name),
         _ => {
-            eprintln!(
-                "usage: compare [--short] | compare --sample FILE | compare --sample-hld FILE"
-            );
+            eprintln!("usage: compare [--short] | compare --sample[-hld|-files] FILE");
             ExitCode::from(2)
         }
     }

@@ -1,5 +1,5 @@
 -- 01, "Definitions", centroid: components and parts of a tree, as tests on its vertices. `way u v` is what follows u on the simple path to v.
-use Prim.Native.Nat.{ℕ, _+_, _*_, _≤_, _<_}
+use Prim.Native.Nat.{ℕ, _*_, _≤_, _<_}
 use mathlib.Core.Path.{_≡_}
 use mathlib.Core.Logic.{_≢_}
 use mathlib.Core.Bool.{Bool, true, false, not}

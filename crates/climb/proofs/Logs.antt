@@ -1,7 +1,7 @@
 -- Four halvings at once.
 use Prim.Native.Nat.{ℕ, _+_, _/_, _≤_}
 use native.Mathlib.Omega.{arith}
-use mathlib.Core.Path.{_≡_, ap, _∙_}
+use mathlib.Core.Path.{_≡_, ap}
 use Rattle.numbering.specs.Log.{log2}
 use Rattle.numbering.proofs.Logs.{log2-half}
 

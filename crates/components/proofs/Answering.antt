@@ -6,7 +6,7 @@ use mathlib.Core.Path.{_≡_, refl, subst}
 use mathlib.Core.Logic.{_≢_, inl, inr}
 use mathlib.Core.List.{List, [], _∷_, _++_}
 use lib.ListN.{length}
-use Rattle.sums.specs.Sum.{at, sum}
+use Rattle.sums.specs.Sum.{at}
 use Rattle.sums.proofs.Sums.{sum-mono, sum-const}
 use Rattle.graph.specs.Codes.{done, badSize, noRoom}
 use Rattle.graph.specs.Judgement.{Test, test, First}

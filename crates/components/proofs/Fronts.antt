@@ -10,7 +10,6 @@ use lib.Dec.{eqb}
 use lib.ListN.{length, take, drop, length-drop, take-append-drop}
 use lib.Seq.{sets, sets-eq, ext-getD, getD-drop, length-take-le}
 use borrow.Author.Tests.{eq-eqb, ne-eqb}
-use Rattle.sums.specs.Sum.{at}
 use Rattle.graph.specs.Work.{Only}
 use Rattle.centroid.specs.Lists.{joined}
 use Rattle.centroid.specs.Calls.{Front}

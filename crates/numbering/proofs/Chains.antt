@@ -3,7 +3,7 @@ use Prim.Native.Nat.{ℕ, zero, suc, _+_, _*_, _≤_, _<_}
 use native.Mathlib.Omega.{arith}
 use native.Mathlib.Decide.{decLe}
 use mathlib.Core.Path.{_≡_, sym, ap, subst, _∙_}
-use mathlib.Core.Logic.{_⊎_, inl, inr, ⊎-elim, _≢_}
+use mathlib.Core.Logic.{_⊎_, inl, inr, ⊎-elim}
 use mathlib.Core.List.{List}
 use Rattle.paths.specs.Rooted.{Anc}
 use Rattle.paths.proofs.Canon.{root-ind}
@@ -78,10 +78,6 @@ module _ {n root : ℕ} {par dep head id order size : ℕ → ℕ} {kids : ℕ �
   -- a vertex but the root heads its own chain, or goes on its parent's, right behind it
   pub light-or-heavy : {v : ℕ} → v < n → 0 < dep v → (head v ≡ v) ⊎ ((head v ≡ head (par v)) × (id v ≡ id (par v) + 1))
   light-or-heavy hv p = ⊎-elim inr (λ r. inl (r .0)) (child-step hv p)
-
-  -- a vertex that does not head its chain goes on its parent's, right behind it
-  pub heavy-step : {v : ℕ} → v < n → 0 < dep v → head v ≢ v → (head v ≡ head (par v)) × (id v ≡ id (par v) + 1)
-  heavy-step hv p d = ⊎-elim (λ e. absurd (d e)) (λ r. r) (light-or-heavy hv p)
 
   -- the subtree of a vertex that heads its chain is less than half its parent's
   pub light-half : {v : ℕ} → v < n → 0 < dep v → head v ≡ v → 2 * (size v + 1) ≤ size (par v) + 1

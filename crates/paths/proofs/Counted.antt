@@ -55,10 +55,6 @@ count-nodup [] h = tt
 count-nodup (y ∷ l) h =
     (let t = tally-same y y refl in let z = h y in none-out y l (omega arith), count-nodup l (λ x. let z = h x in omega arith))
 
--- a list has no repeats exactly if each count is at most 1
-pub nodup-iff-count : (l : List ℕ) → NoDup l ↔ ((x : ℕ) → count x l ≤ 1)
-nodup-iff-count l = (λ d x. nodup-count x l d, count-nodup l)
-
 -- a number from n on does not stand in a list below n
 pub count-above : (n x : ℕ) (l : List ℕ) → Below n l → n ≤ x → count x l ≡ 0
 count-above n x l b h = count-absent x l (λ i. let p = in-below n x l b i in omega arith)

@@ -2,7 +2,6 @@
 use Prim.Native.Nat.{ℕ}
 use mathlib.Core.Path.{_≡_, subst}
 use mathlib.Core.List.{List}
-use lib.ListN.{length}
 use Rattle.climb.specs.declared.answers.Answer.{Answer}
 use Rattle.climb.specs.declared.answers.Interval.{Interval}
 use Rattle.ranges.specs.Calls.{Answered}

@@ -5,20 +5,18 @@ use graph::codes::BAD_SIZE;
 use graph::codes::DISCONNECTED;
 use graph::codes::DONE;
 use graph::codes::HAS_CYCLE;
-use libc::STDIN_FILENO;
 use sample::holds;
 use sample::number;
 use sample::print_count;
 use sample::print_malformed;
 use sample::read_numbers;
+use sample::read_sample;
 use std::num::wrapping_add_u64;
 use std::num::wrapping_add_usize;
 use validate::validate_tree;
 ghost use Prim.Native.Nat.{_≤_};
 
-// The largest sample, which leaves a byte of the buffer, and its largest case.
-const MAX_BYTES: usize = 65_535;
-
+// The largest case of the sample.
 const MAX_VERTICES: usize = 64;
 
 const MAX_TARGETS: usize = 256;
@@ -158,11 +156,6 @@ fn replay(bytes: &[u8]) {
 
 fn main() {
     let mut buffer = io::large_buffer();
-    let count = io::read_full(STDIN_FILENO, &mut buffer);
-    // Where the buffer is full, there may be more.
-    if MAX_BYTES < count {
-        print_malformed();
-        return;
-    }
+    let count = read_sample(&mut buffer);
     replay(&buffer[..count]);
 }

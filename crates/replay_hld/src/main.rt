@@ -4,19 +4,17 @@
 use graph::codes::DONE;
 use graph::codes::NO_PARENT;
 use hld::build::try_hld;
-use libc::STDIN_FILENO;
 use sample::holds;
 use sample::number;
 use sample::print_count;
 use sample::print_malformed;
 use sample::read_numbers;
+use sample::read_sample;
 use std::num::wrapping_add_u64;
 use std::num::wrapping_add_usize;
 ghost use Prim.Native.Nat.{_≤_};
 
-// The largest sample, which leaves a byte of the buffer, and its largest case.
-const MAX_BYTES: usize = 65_535;
-
+// The largest case of the sample.
 const MAX_VERTICES: usize = 40;
 
 const MAX_TARGETS: usize = 78;
@@ -251,11 +249,6 @@ fn replay(bytes: &[u8]) {
 
 fn main() {
     let mut buffer = io::large_buffer();
-    let count = io::read_full(STDIN_FILENO, &mut buffer);
-    // Where the buffer is full, there may be more.
-    if MAX_BYTES < count {
-        print_malformed();
-        return;
-    }
+    let count = read_sample(&mut buffer);
     replay(&buffer[..count]);
 }

@@ -1,7 +1,9 @@
 // What the programs that replay a stored sample share: the sample is 16-bit numbers, the low byte first, and the first is the count of cases.
+use libc::STDIN_FILENO;
 use libc::STDOUT_FILENO;
 use std::num::wrapping_add_usize;
 ghost use Prim.Native.Nat.{_<_};
+ghost use Rattle.io.specs.Counts.{Counts};
 
 fn wide(x: u8) -> u32
     ensures { λ r. ⌜ r < 256 ⌝ }
@@ -39,6 +41,18 @@ pub fn read_numbers(bytes: &[u8], at: usize, out: &mut [u32]) {
         from = wrapping_add_usize(from, 2);
         k += 1;
     }
+}
+
+// Reads the sample from standard input to the front of the buffer and returns its length. Where the buffer is full there may be more, and the length
+// is 0: no sample is so short, so it counts as malformed.
+pub fn read_sample(buffer: &mut [u8]) -> usize
+    ensures { λ r. ⌜ Counts r (now (buffer .exit)) ⌝ }
+{
+    let count = io::read_full(STDIN_FILENO, buffer);
+    if count == buffer.len() {
+        return 0;
+    }
+    count
 }
 
 // Prints a line with a count.

@@ -131,10 +131,6 @@ sum-once n k h =
     sum-change n k 1 (λ i. 0) (λ i. tally (eqb i k)) h (tally-same k k refl) (λ i b d. tally-other i k d)
     ∙ omega (arith, sum-zeros n)
 
--- and not at all if it is none of them
-pub sum-never : (n k : ℕ) → n ≤ k → sum n (λ i. tally (eqb i k)) ≡ 0
-sum-never n k h = sum-none n (λ i. tally (eqb i k)) (λ i b. tally-other i k (omega arith))
-
 -- the same with the test turned round
 pub sum-pick : (n k : ℕ) → k < n → sum n (λ i. tally (eqb k i)) ≡ 1
 sum-pick n k h = sum-ext n (λ i. tally (eqb k i)) (λ i. tally (eqb i k)) (λ i b. tally-sym k i) ∙ sum-once n k h

@@ -72,6 +72,3 @@ decimal-high x high h =
 -- no number takes more than 20 bytes, and one below 2 ^ 32 at most 10
 pub decimal-room : (x : ℕ) → length (decimal x) ≤ 20
 decimal-room x = digits-room 20 x
-
-pub decimal-short : (x : ℕ) → x < 2 ^ 32 → length (decimal x) ≤ 10
-decimal-short x h = digits-short 9 20 x (omega arith)

@@ -30,9 +30,6 @@ tree-refused code n root ne = rw (ne-eqb code 0 ne)
 pub tree-built : (code n root : ℕ) → code ≡ 0 → treeText code n root ≡ treeWord ++ (fields (0 ∷ n ∷ root ∷ []) ++ newline)
 tree-built code n root e = rw (eq-eqb code 0 e)
 
-pub tree-line : (code : ℕ) (f : TreeFile) → treeLine code f ≡ treeText code (length (f .offsets) - 1) (f .root)
-tree-line code f = refl
-
 -- a query's line is its head, its answer and the end of the line
 pub query-line : (t : Six) (place : ℕ) (q : Query) → queryLine t place q ≡ queryHead place (q .kind) ++ (answerText t q ++ newline)
 query-line t place q =

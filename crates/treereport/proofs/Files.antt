@@ -11,7 +11,7 @@ use lib.Seq.{take-at, length-take-le}
 use Rattle.tables.specs.Tables.{Six, six}
 use Rattle.treefile.specs.declared.judge.Shape.{Shape}
 use Rattle.treefile.specs.File.{Query, TreeFile, words, Parsed, badFile, file, parseFile, maxOffsets, maxFileTargets, maxQueries}
-use Rattle.treefile.specs.Report.{badReport, report}
+use Rattle.treefile.specs.Report.{badReport}
 use Rattle.treefile.specs.Parsing.{shapeOf, offsetsOf, targetsOf, queriesOf, queryNumbers, front, Buffers, Parses}
 use Rattle.treefile.specs.Writing.{Puts}
 use Rattle.treefile.proofs.FileWords.{words-length}
