@@ -1,27 +1,35 @@
 -- Laws of the queries that climb: what each answers, by how its climbs end.
 use Prim.Native.Nat.{ℕ, _+_, _-_, _*_, _≤_, _<_}
-use mathlib.Core.Path.{_≡_, sym, ap, _∙_, subst}
+use mathlib.Core.Path.{_≡_, refl, sym, ap, _∙_, subst}
 use lib.Dec.{leb}
 use borrow.Author.Tests.{le-leb, lt-leb}
 use Rattle.tables.specs.Tables.{Six}
 use Rattle.climb.specs.Choice.{pick}
-use Rattle.climb.specs.Sound.{depthIn}
+use Rattle.climb.specs.Sound.{depthIn, standOn}
 use Rattle.climb.specs.Climbing.{climbTo, ancestorOf}
 use Rattle.climb.specs.Queries.{distanceIn, deeper, lcaIn, ancestorIn, jumpIn}
 use Rattle.climb.specs.declared.places.Place.{Place}
 use Rattle.climb.specs.declared.places.Climb.{Climb}
+use Rattle.climb.specs.declared.places.Stood.the-variants.{On, Unsound}
+use Rattle.climb.specs.declared.places.Climbed.{Climbed}
 use Rattle.climb.specs.declared.places.Climbed.the-variants.{Met, Lost}
 use Rattle.climb.specs.declared.answers.Refusal.the-variants.{BadTable, TooFar}
 use Rattle.climb.specs.declared.answers.Answer.{Answer}
 use Rattle.climb.specs.declared.answers.Answer.the-variants.{Is, Refused}
+use Rattle.climb.proofs.Soundness.{stood-depth}
+use Rattle.climb.proofs.Climbs.{climb-off-u}
 
 module _ (n : ℕ) (t : Six) (u v : ℕ) where
   pub distance-lost : climbTo n t u v ≡ Lost → Refused BadTable ≡ distanceIn n t u v
   distance-lost e = rw (distanceIn, e)
 
-  pub distance-met : {c : Climb} → climbTo n t u v ≡ Met c → {w : Place} → w ≡ ancestorOf c
-      → Is (depthIn t u + depthIn t v - 2 * w .depth) ≡ distanceIn n t u v
-  distance-met e {w} f = ap (λ (q : Place). Is (depthIn t u + depthIn t v - 2 * q .depth)) f ∙ rw (distanceIn, e)
+  -- the depths are those of the places where one stands on u and v
+  pub distance-met : {p q : Place} → standOn n t u ≡ On p → standOn n t v ≡ On q → {c : Climb} → climbTo n t u v ≡ Met c → {w : Place} → w ≡ ancestorOf c
+      → Is (p .depth + q .depth - 2 * w .depth) ≡ distanceIn n t u v
+  distance-met {p} {q} on-u on-v e {w} f =
+      ap (λ (d : ℕ). Is (d + q .depth - 2 * w .depth)) (stood-depth n t u on-u)
+      ∙ (ap (λ (d : ℕ). Is (depthIn t u + d - 2 * w .depth)) (stood-depth n t v on-v)
+      ∙ (ap (λ (a : Place). Is (depthIn t u + depthIn t v - 2 * a .depth)) f ∙ rw (distanceIn, e)))
 
 module _ (n : ℕ) (t : Six) (r u v : ℕ) where
   pub lca-lost-1 : climbTo n t u v ≡ Lost → Refused BadTable ≡ lcaIn n t r u v
@@ -37,6 +45,14 @@ module _ (n : ℕ) (t : Six) (r u v : ℕ) where
 
       pub lca-met : {c : Climb} → climbTo n t r v ≡ Met c → {w : Place} → w ≡ deeper (deeper (ancestorOf a) (ancestorOf b)) (ancestorOf c) → Is (w .vertex) ≡ lcaIn n t r u v
       lca-met e f = ap (λ (q : Place). Is (q .vertex)) f ∙ rw (lcaIn, uv, ru, e)
+
+-- where r is unsound, the second climb is lost if the first is not
+pub lca-off-r : (n : ℕ) (t : Six) (r u v : ℕ) → standOn n t r ≡ Unsound → Refused BadTable ≡ lcaIn n t r u v
+lca-off-r n t r u v off = first (climbTo n t u v) refl
+  where
+    first : (x : Climbed) → climbTo n t u v ≡ x → Refused BadTable ≡ lcaIn n t r u v
+    first Lost e = lca-lost-1 n t r u v e
+    first (Met a) e = lca-lost-2 n t r u v e (sym (climb-off-u n t r u off))
 
 -- the steps from u up to the ancestor w
 abbrev up : Six → ℕ → Place → ℕ

@@ -1,4 +1,4 @@
--- The state of a climb under way, as the loop of `climb_to_lca` keeps it: it begins, goes on by one move, and ends.
+-- The state of a climb under way, as the loop of `climb_from` keeps it: it begins, goes on by one move, and ends.
 use Prim.Native.Nat.{ℕ, suc, _+_, _-_, _*_, _≤_, _<_}
 use native.Mathlib.Omega.{arith}
 use native.Mathlib.Decide.{decLe}
@@ -10,10 +10,11 @@ use Rattle.sums.specs.Sum.{at}
 use Rattle.numbering.specs.Log.{log2}
 use Rattle.tables.specs.Tables.{Six, six}
 use Rattle.climb.specs.Climbing.{climbing, climbTo, climbStart, uMoved, vMoved, ancestorOf}
-use Rattle.climb.specs.Inner.{Placed, Climbs, ClimbedTo, StoodOn, Left}
+use Rattle.climb.specs.Inner.{Placed, ClimbsFrom, ClimbedTo, StoodOn, Left}
 use Rattle.climb.specs.declared.places.Place.{Place}
 use Rattle.climb.specs.declared.places.Climb.{Climb}
 use Rattle.climb.specs.declared.places.Stood.the-variants.{On, Unsound}
+use Rattle.climb.specs.declared.places.Climbed.{Climbed}
 use Rattle.climb.specs.declared.places.Climbed.the-variants.{Met, Lost}
 use Rattle.climb.proofs.Soundness.{stood-place, stood-placed}
 use Rattle.climb.proofs.Climbs.{Moved, moved, climb-met, climb-u, climb-u-lost, climb-v, climb-v-lost, climb-from}
@@ -38,9 +39,8 @@ module _ (P D H I : List ℕ) (chains u v : ℕ) where
   abbrev four : Six
   four = six P D H I [] []
 
-  start : Climbs P D H I chains u v → {p r : Place} → StoodOn P D H I u (On p) → StoodOn P D H I v (On r) → Going P D H I chains u v (climbStart p r)
-  start pre {p} {r} a b =
-      let l = pre .limit in
+  start : chains ≡ log2 (length P) → {p r : Place} → StoodOn P D H I u (On p) → StoodOn P D H I v (On r) → Going P D H I chains u v (climbStart p r)
+  start l {p} {r} a b =
       let e : suc (2 * chains - (0 + 0)) ≡ 2 * log2 (length P) + 1 = omega arith in
       let du : p .depth ≡ at D u = ap (λ (q : Place). q .depth) (stood-place (length P) four u (sym (a [] []))) in
       let dv : r .depth ≡ at D v = ap (λ (q : Place). q .depth) (stood-place (length P) four v (sym (b [] []))) in
@@ -57,9 +57,9 @@ module _ (P D H I : List ℕ) (chains u v : ℕ) where
             ∙ sym (climb-from (length P) (six P D H I o s) u v (sym (a o s)) (sym (b o s)));
       }
 
-  pub going-start : Climbs P D H I chains u v → {p r : Place} {c : Climb}
+  pub going-start : chains ≡ log2 (length P) → {p r : Place} {c : Climb}
       → StoodOn P D H I u (On p) → StoodOn P D H I v (On r) → c ≡ climbStart p r → Going P D H I chains u v c
-  going-start pre a b e = subst (Going P D H I chains u v) (sym e) (start pre a b)
+  going-start l a b e = subst (Going P D H I chains u v) (sym e) (start l a b)
 
   module _ (c : Climb) (g : Going P D H I chains u v c) where
     pub going-met : c .u .head ≡ c .v .head → (o s : List ℕ) → Met c ≡ climbTo (length P) (six P D H I o s) u v
@@ -143,6 +143,17 @@ module _ (P D H I : List ℕ) (chains u v : ℕ) where
 
           pub going-v : {d : Climb} → d ≡ vMoved c q → Going P D H I chains u v d
           going-v e = subst (Going P D H I chains u v) (sym e) step-v
+
+-- a climb from two places that were stood on begins at their vertices
+module _ (P D H I : List ℕ) {p q : Place} {c : Climb} (new : c ≡ climbStart p q) where
+  pub going-begins : {chains : ℕ} → ClimbsFrom P D H I chains p q → Going P D H I chains (c .u .vertex) (c .v .vertex) c
+  going-begins {chains} pre =
+      subst (λ (d : Climb). Going P D H I chains (d .u .vertex) (d .v .vertex) d) (sym new)
+      (start P D H I chains (p .vertex) (q .vertex) (pre .limit) (pre .on-p) (pre .on-q))
+
+  -- and ends as the climb from those two
+  pub climbed-begun : {r : Climbed} → ClimbedTo P D H I (c .u .vertex) (c .v .vertex) r → ClimbedTo P D H I (p .vertex) (q .vertex) r
+  climbed-begun {r} e = subst (λ (d : Climb). ClimbedTo P D H I (d .u .vertex) (d .v .vertex) r) new e
 
 -- the ancestor is no deeper than either end
 ancestor-low : (c : Climb) → (ancestorOf c .depth ≤ c .u .depth) × (ancestorOf c .depth ≤ c .v .depth)

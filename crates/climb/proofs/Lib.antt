@@ -6,5 +6,7 @@ pub mod Rising
 pub mod Passed
 pub mod Reading
 pub mod Answering
+pub mod Handed
+pub mod Jumping
 pub mod Counting
 pub mod Logs

@@ -102,9 +102,12 @@ fallen false q e = refl
 pub unstood : (n : ℕ) (t : Six) (x : ℕ) → standOn n t x ≡ Unsound → sound? n t x ≡ false
 unstood n t x e = fallen (sound? n t x) (placeOf t x) e
 
--- a place names the vertex that was stood on
+-- a place names the vertex that was stood on, and has its depth
 pub stood-vertex : (n : ℕ) (t : Six) (x : ℕ) {p : Place} → standOn n t x ≡ On p → p .vertex ≡ x
 stood-vertex n t x e = ap (λ (q : Place). q .vertex) (stood-place n t x e)
+
+pub stood-depth : (n : ℕ) (t : Six) (x : ℕ) {p : Place} → standOn n t x ≡ On p → p .depth ≡ depthIn t x
+stood-depth n t x e = ap (λ (q : Place). q .depth) (stood-place n t x e)
 
 -- so that standing on it again finds the same place
 pub stood-again : (n : ℕ) (t : Six) (x : ℕ) {p : Place} → standOn n t x ≡ On p → On p ≡ standOn n t (p .vertex)

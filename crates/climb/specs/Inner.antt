@@ -13,7 +13,7 @@ use Rattle.tables.specs.Tables.{six}
 use Rattle.climb.specs.Choice.{pick, both}
 use Rattle.climb.specs.Sound.{standOn}
 use Rattle.climb.specs.Climbing.{leaveChain, climbTo, ancestorOf}
-use Rattle.climb.specs.Queries.{entryAt, ancestorFrom, ancestorIn, withoutChild}
+use Rattle.climb.specs.Queries.{entryAt, ancestorFrom, ancestorIn, jumpIn, withoutChild}
 use Rattle.climb.specs.declared.log.Halved.{Halved}
 use Rattle.climb.specs.declared.answers.Answer.{Answer}
 use Rattle.climb.specs.declared.answers.Answer.the-variants.{Is}
@@ -82,6 +82,13 @@ pub record Climbs (P D H I : List ℕ) (chains u v : ℕ) : Type 0 where
   pub u-below : u < length P
   pub v-below : v < length P
 
+-- p and q are sound vertices with what was read of them
+pub record ClimbsFrom (P D H I : List ℕ) (chains : ℕ) (p q : Place) : Type 0 where
+  pub even : Even P D H I
+  pub limit : chains ≡ log2 (length P)
+  pub on-p : StoodOn P D H I (p .vertex) (On p)
+  pub on-q : StoodOn P D H I (q .vertex) (On q)
+
 -- a climb that ends is no deeper than where it began
 pub record ClimbedTo (P D H I : List ℕ) (u v : ℕ) (r : Climbed) : Type 0 where
   pub climb : (o s : List ℕ) → r ≡ climbTo (length P) (six P D H I o s) u v
@@ -126,6 +133,14 @@ pub record Finds (P D H I O : List ℕ) (chains v : ℕ) : Type 0 where
 
 abbrev pub Found : (P D H I O : List ℕ) → ℕ → ℕ → Answer → Type 0
 Found P D H I O v k r = (s : List ℕ) → r ≡ ancestorIn (length P) (six P D H I O s) v k
+
+-- a jump between two such places is lent the same
+pub record Jumps (P D H I O : List ℕ) (chains : ℕ) (p q : Place) : Type 0 where
+  pub climbs : ClimbsFrom P D H I chains p q
+  pub order : length O ≡ length P
+
+abbrev pub Jumped : (P D H I O : List ℕ) → Place → Place → ℕ → Answer → Type 0
+Jumped P D H I O p q k r = (s : List ℕ) → r ≡ jumpIn (length P) (six P D H I O s) (p .vertex) (q .vertex) k
 
 -- Sizes.
 

@@ -5,7 +5,7 @@ use crate::places::Place;
 use crate::places::Stood;
 use crate::sound::stand;
 use graph::codes::NO_PARENT;
-ghost use Rattle.climb.specs.Inner.{Leaves, Left, Climbs, ClimbedTo};
+ghost use Rattle.climb.specs.Inner.{Leaves, Left, Climbs, ClimbsFrom, ClimbedTo};
 
 // Leaves the chain of p, the left-th that its side has left, for the head's parent: at most `chains` of them are left.
 pub fn leave_chain(
@@ -30,26 +30,20 @@ pub fn leave_chain(
     stand(parent, depth, head, id, up)
 }
 
-// Climbs from u and v, chain by chain, until both stand on one chain. `chains` is the floor of log2 n.
-pub fn climb_to_lca(
+// Climbs from p and q, two places that were stood on, chain by chain, until both sides stand on one chain. `chains` is the floor of log2 n.
+pub fn climb_from(
     parent: &[u32],
     depth: &[u32],
     head: &[u32],
     id: &[u32],
     chains: usize,
-    u: usize,
-    v: usize,
+    p: Place,
+    q: Place,
 ) -> Climbed
-    requires { ⌜ Climbs (now parent) (now depth) (now head) (now id) chains u v ⌝ }
-    ensures { λ r. ⌜ ClimbedTo (now (parent .entry)) (now (depth .entry)) (now (head .entry)) (now (id .entry)) u v r ⌝ }
+    requires { ⌜ ClimbsFrom (now parent) (now depth) (now head) (now id) chains p q ⌝ }
+    ensures { λ r. ⌜ ClimbedTo (now (parent .entry)) (now (depth .entry)) (now (head .entry)) (now (id .entry)) (p .vertex) (q .vertex) r ⌝ }
 {
-    let Stood::On(p) = stand(parent, depth, head, id, u) else {
-        return Climbed::Lost;
-    };
-    let Stood::On(r) = stand(parent, depth, head, id, v) else {
-        return Climbed::Lost;
-    };
-    let mut climb = Climb::new(p, r);
+    let mut climb = Climb::new(p, q);
     while climb.u.head != climb.v.head {
         if climb.v.top <= climb.u.top {
             let Stood::On(p) = leave_chain(parent, depth, head, id, chains, climb.u, climb.u_count)
@@ -66,4 +60,26 @@ pub fn climb_to_lca(
         }
     }
     Climbed::Met(climb)
+}
+
+// Stands on u and v and climbs from there.
+pub fn climb_to_lca(
+    parent: &[u32],
+    depth: &[u32],
+    head: &[u32],
+    id: &[u32],
+    chains: usize,
+    u: usize,
+    v: usize,
+) -> Climbed
+    requires { ⌜ Climbs (now parent) (now depth) (now head) (now id) chains u v ⌝ }
+    ensures { λ r. ⌜ ClimbedTo (now (parent .entry)) (now (depth .entry)) (now (head .entry)) (now (id .entry)) u v r ⌝ }
+{
+    let Stood::On(p) = stand(parent, depth, head, id, u) else {
+        return Climbed::Lost;
+    };
+    let Stood::On(q) = stand(parent, depth, head, id, v) else {
+        return Climbed::Lost;
+    };
+    climb_from(parent, depth, head, id, chains, p, q)
 }

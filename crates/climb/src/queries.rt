@@ -1,15 +1,20 @@
-// Queries that climb: the distance, the LCA, ancestors and jumps.
+// Queries that climb: the distance, the LCA, ancestors and jumps. Each vertex that is asked about is stood on once, and its place is handed on.
+use crate::ancestors::ancestor_from;
 use crate::ancestors::ancestor_in;
 use crate::answers::Answer;
 use crate::answers::Refusal;
 use crate::asked::Verdict;
 use crate::asked::asked;
-use crate::climbing::climb_to_lca;
+use crate::climbing::climb_from;
 use crate::log::floor_log2;
 use crate::places::Climbed;
+use crate::places::Place;
+use crate::places::Stood;
 use crate::places::deeper;
+use crate::sound::stand;
 ghost use mathlib.Core.Path.{_≡_};
 ghost use Rattle.tables.specs.Tables.{six};
+ghost use Rattle.climb.specs.Inner.{Jumps, Jumped};
 ghost use Rattle.climb.specs.Queries.{distance as distanceOf, lca as lcaOf, kthAncestor, jump as jumpOf};
 
 // The number of edges between u and v.
@@ -29,11 +34,17 @@ pub fn distance(
         return Answer::Refused(refusal);
     }
     let chains = floor_log2(parent.len());
-    let Climbed::Met(c) = climb_to_lca(parent, depth, head, id, chains, u, v) else {
+    let Stood::On(p) = stand(parent, depth, head, id, u) else {
+        return Answer::Refused(Refusal::BadTable);
+    };
+    let Stood::On(q) = stand(parent, depth, head, id, v) else {
+        return Answer::Refused(Refusal::BadTable);
+    };
+    let Climbed::Met(c) = climb_from(parent, depth, head, id, chains, p, q) else {
         return Answer::Refused(Refusal::BadTable);
     };
     let w = c.ancestor();
-    Answer::Is(depth[u] as usize + depth[v] as usize - 2 * w.depth)
+    Answer::Is(p.depth + q.depth - 2 * w.depth)
 }
 
 // The lowest common ancestor of u and v as if r were the root: the last deepest of the three under the build root.
@@ -54,13 +65,22 @@ pub fn lca(
         return Answer::Refused(refusal);
     }
     let chains = floor_log2(parent.len());
-    let Climbed::Met(a) = climb_to_lca(parent, depth, head, id, chains, u, v) else {
+    let Stood::On(s) = stand(parent, depth, head, id, r) else {
         return Answer::Refused(Refusal::BadTable);
     };
-    let Climbed::Met(b) = climb_to_lca(parent, depth, head, id, chains, r, u) else {
+    let Stood::On(p) = stand(parent, depth, head, id, u) else {
         return Answer::Refused(Refusal::BadTable);
     };
-    let Climbed::Met(c) = climb_to_lca(parent, depth, head, id, chains, r, v) else {
+    let Stood::On(q) = stand(parent, depth, head, id, v) else {
+        return Answer::Refused(Refusal::BadTable);
+    };
+    let Climbed::Met(a) = climb_from(parent, depth, head, id, chains, p, q) else {
+        return Answer::Refused(Refusal::BadTable);
+    };
+    let Climbed::Met(b) = climb_from(parent, depth, head, id, chains, s, p) else {
+        return Answer::Refused(Refusal::BadTable);
+    };
+    let Climbed::Met(c) = climb_from(parent, depth, head, id, chains, s, q) else {
         return Answer::Refused(Refusal::BadTable);
     };
     let candidates = [a.ancestor(), b.ancestor(), c.ancestor()];
@@ -88,7 +108,46 @@ pub fn kth_ancestor(
     ancestor_in(parent, depth, head, id, order, chains, v, k)
 }
 
-// The vertex k steps from u on the way to v: up to the ancestor, then down, counted from v.
+// The vertex k steps from p on the way to q: up to the ancestor, then down, counted from q. An answer is taken apart and made again, which
+// is quicker than to move it whole.
+fn jump_from(
+    parent: &[u32],
+    depth: &[u32],
+    head: &[u32],
+    id: &[u32],
+    order: &[u32],
+    chains: usize,
+    p: Place,
+    q: Place,
+    k: usize,
+) -> Answer
+    requires { ⌜ Jumps (now parent) (now depth) (now head) (now id) (now order) chains p q ⌝ }
+    ensures { λ r. ⌜ Jumped (now (parent .entry)) (now (depth .entry)) (now (head .entry)) (now (id .entry)) (now (order .entry)) p q k r ⌝ }
+{
+    let Climbed::Met(c) = climb_from(parent, depth, head, id, chains, p, q) else {
+        return Answer::Refused(Refusal::BadTable);
+    };
+    let w = c.ancestor();
+    let up = p.depth - w.depth;
+    let down = q.depth - w.depth;
+    if k <= up {
+        let found = ancestor_from(parent, depth, head, id, order, chains, p, k);
+        let Answer::Is(x) = found else {
+            return found;
+        };
+        return Answer::Is(x);
+    }
+    if up + down < k {
+        return Answer::Refused(Refusal::TooFar);
+    }
+    let found = ancestor_from(parent, depth, head, id, order, chains, q, up + down - k);
+    let Answer::Is(x) = found else {
+        return found;
+    };
+    Answer::Is(x)
+}
+
+// The vertex k steps from u on the way to v.
 pub fn jump(
     parent: &[u32],
     depth: &[u32],
@@ -106,25 +165,11 @@ pub fn jump(
         return Answer::Refused(refusal);
     }
     let chains = floor_log2(parent.len());
-    let Climbed::Met(c) = climb_to_lca(parent, depth, head, id, chains, u, v) else {
+    let Stood::On(p) = stand(parent, depth, head, id, u) else {
         return Answer::Refused(Refusal::BadTable);
     };
-    let w = c.ancestor();
-    let up = depth[u] as usize - w.depth;
-    let down = depth[v] as usize - w.depth;
-    if k <= up {
-        let found = ancestor_in(parent, depth, head, id, order, chains, u, k);
-        let Answer::Is(x) = found else {
-            return found;
-        };
-        return Answer::Is(x);
-    }
-    if up + down < k {
-        return Answer::Refused(Refusal::TooFar);
-    }
-    let found = ancestor_in(parent, depth, head, id, order, chains, v, up + down - k);
-    let Answer::Is(x) = found else {
-        return found;
+    let Stood::On(q) = stand(parent, depth, head, id, v) else {
+        return Answer::Refused(Refusal::BadTable);
     };
-    Answer::Is(x)
+    jump_from(parent, depth, head, id, order, chains, p, q, k)
 }

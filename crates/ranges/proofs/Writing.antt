@@ -83,7 +83,7 @@ module _ (kind : Kind) (t : Six) (chains u v count : ℕ) (lent : List ℕ) wher
         let on-u = sym (a (t .order) (t .size)) in
         let on-v = sym (b (t .order) (t .size)) in
         record {
-          going = going-start (t .parent) (t .depth) (t .head) (t .id) chains u v pre a b refl;
+          going = going-start (t .parent) (t .depth) (t .head) (t .id) chains u v limit a b refl;
           u-hung = stood-hung (sizeOf t) t u on-u;
           v-hung = stood-hung (sizeOf t) t v on-v;
           rest = known .ranges;

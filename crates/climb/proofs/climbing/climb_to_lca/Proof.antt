@@ -1,122 +1,53 @@
--- `climbing::climb_to_lca` meets its contract: the loop keeps a climb under way, and each way out ends it.
+-- `climbing::climb_to_lca` meets its contract: it stands on u and v and climbs from their places.
+use borrow.Author.Needs.{needs}
 use Rattle.climb.proofs.climbing.climb_to_lca.Statement.{statement}
 use Rattle.climb.proofs.climbing.climb_to_lca.Tie as tie
-use borrow.Author.Needs.{needs}
-use native.Mathlib.Omega.{arith}
 use mathlib.Core.Path.{sym, _∙_}
 use Rattle.climb.proofs.Climbs.{climb-off-u, climb-off-v}
-use Rattle.climb.proofs.Going.{Going, chainsLeft, going-start, going-u, going-u-less, going-u-lost, going-v, going-v-less, going-v-lost, climbed-lost, climbed-met}
-use Rattle.climb.proofs.Going.{u-fewer, v-fewer}
+use Rattle.climb.proofs.Going.{climbed-lost}
+use Rattle.climb.proofs.Handed.{climbs-from, climbed-there}
 
-abbrev Inv-loop : tie.InvT-loop
-Inv-loop parent depth head id chains u v climb₀ climb = Going parent depth head id chains u v climb
-
-abbrev μ-loop : tie.MeasureT-loop
-μ-loop parent depth head id chains u v climb₀ climb = chainsLeft chains climb
-
-stand-requires : tie.Need-stand-requires Inv-loop μ-loop
+stand-requires : tie.Need-stand-requires
 stand-requires c κs = record { even = c .before .before .before .before .pre .even; vertex = c .before .before .before .before .pre .u-below }
 
-enum-known-p : tie.Need-enum-known-p Inv-loop μ-loop
+enum-known-p : tie.Need-enum-known-p
 enum-known-p c = search needs
 
-enum-told : tie.Need-enum-told Inv-loop μ-loop
+enum-told : tie.Need-enum-told
 enum-told c = search needs
 
-returns : tie.Need-returns Inv-loop μ-loop
+returns : tie.Need-returns
 returns c = climbed-lost _ _ _ _ _ _ (λ o s. climb-off-u _ _ _ _ (sym (c .before .before .stand .ensures o s) ∙ c .enum-told .given .1))
 
-stand-requires-2 : tie.Need-stand-requires-2 Inv-loop μ-loop
+stand-requires-2 : tie.Need-stand-requires-2
 stand-requires-2 c κs = record { even = c .before .before .before .before .before .before .before .before .pre .even; vertex = c .before .before .before .before .before .before .before .before .pre .v-below }
 
-enum-known-r : tie.Need-enum-known-r Inv-loop μ-loop
-enum-known-r c = search needs
+enum-known-q : tie.Need-enum-known-q
+enum-known-q c = search needs
 
-enum-told-2 : tie.Need-enum-told-2 Inv-loop μ-loop
+enum-told-2 : tie.Need-enum-told-2
 enum-told-2 c = search needs
 
-returns-2 : tie.Need-returns-2 Inv-loop μ-loop
+returns-2 : tie.Need-returns-2
 returns-2 c = climbed-lost _ _ _ _ _ _ (λ o s. climb-off-v _ _ _ _ (sym (c .before .before .before .before .before .before .stand .ensures o s) ∙ c .before .before .before .before .p .given .1) (sym (c .before .before .stand2 .ensures o s) ∙ c .enum-told2 .given .1))
 
-new-requires : tie.Need-new-requires Inv-loop μ-loop
-new-requires c κs = search needs
+climb-from-requires : tie.Need-climb-from-requires
+climb-from-requires c κs = climbs-from _ _ _ _ _ _ (c .before .before .before .before .before .before .before .stand .ensures) (c .before .before .before .before .before .p .given .1) (c .before .before .before .stand2 .ensures) (c .before .q .given .1) (c .before .before .before .before .before .before .before .before .before .before .before .before .pre .even) (c .before .before .before .before .before .before .before .before .before .before .before .before .pre .limit)
 
-loop-holds : tie.Need-loop-holds Inv-loop μ-loop
-loop-holds c = going-start _ _ _ _ _ _ _ (c .before .before .before .before .before .before .before .before .before .before .before .before .before .pre) (λ o s. sym (c .before .before .before .before .before .before .p .given .1) ∙ c .before .before .before .before .before .before .before .before .stand .ensures o s) (λ o s. sym (c .before .before .r .given .1) ∙ c .before .before .before .before .stand2 .ensures o s) (c .new .ensures)
-
-leave-chain-requires : tie.Need-leave-chain-requires Inv-loop μ-loop
-leave-chain-requires c κs = record { even = c .before .before .before .before .before .before .before .before .before .before .before .before .before .before .before .before .before .before .pre .even; limit = c .before .before .before .before .before .before .before .before .before .before .before .before .before .before .before .before .before .before .pre .limit; place = c .before .before .before .before .loop .inv .u-placed }
-
-enum-known-p-2 : tie.Need-enum-known-p-2 Inv-loop μ-loop
-enum-known-p-2 c = search needs
-
-enum-told-3 : tie.Need-enum-told-3 Inv-loop μ-loop
-enum-told-3 c = search needs
-
-returns-3 : tie.Need-returns-3 Inv-loop μ-loop
-returns-3 c = climbed-lost _ _ _ _ _ _ (going-u-lost _ _ _ _ _ _ _ _ (c .before .before .before .before .before .before .before .loop .inv) (c .before .before .before .before .before .if1 .taken) (c .before .before .before .if2 .taken) (λ o s. sym (c .enum-told3 .given .1) ∙ c .before .before .leave-chain .ensures o s))
-
-u-moved-requires : tie.Need-u-moved-requires Inv-loop μ-loop
-u-moved-requires c κs = omega (arith, c .before .before .before .before .before .before .before .before .before .before .before .before .before .before .before .before .before .before .before .before .before .before .fits .chains, u-fewer _ _ _ _ _ _ _ _ (c .before .before .before .before .before .before .before .before .loop .inv) (c .before .before .before .before .before .before .if1 .taken) (c .before .before .before .before .if2 .taken) _ (λ o s. sym (c .before .p2 .given .1) ∙ c .before .before .before .leave-chain .ensures o s))
-
-loop-less : tie.Need-loop-less Inv-loop μ-loop
-loop-less c = going-u-less _ _ _ _ _ _ _ _ (c .before .before .before .before .before .before .before .before .before .loop .inv) (c .before .before .before .before .before .before .before .if1 .taken) (c .before .before .before .before .before .if2 .taken) _ (λ o s. sym (c .before .before .p2 .given .1) ∙ c .before .before .before .before .leave-chain .ensures o s) (c .u-moved .ensures)
-
-loop-again : tie.Need-loop-again Inv-loop μ-loop
-loop-again c = going-u _ _ _ _ _ _ _ _ (c .before .before .before .before .before .before .before .before .before .loop .inv) (c .before .before .before .before .before .before .before .if1 .taken) (c .before .before .before .before .before .if2 .taken) _ (λ o s. sym (c .before .before .p2 .given .1) ∙ c .before .before .before .before .leave-chain .ensures o s) (c .u-moved .ensures)
-
-leave-chain-requires-2 : tie.Need-leave-chain-requires-2 Inv-loop μ-loop
-leave-chain-requires-2 c κs = record { even = c .before .before .before .before .before .before .before .before .before .before .before .before .before .before .before .before .before .before .pre .even; limit = c .before .before .before .before .before .before .before .before .before .before .before .before .before .before .before .before .before .before .pre .limit; place = c .before .before .before .before .loop .inv .v-placed }
-
-enum-known-p-3 : tie.Need-enum-known-p-3 Inv-loop μ-loop
-enum-known-p-3 c = search needs
-
-enum-told-4 : tie.Need-enum-told-4 Inv-loop μ-loop
-enum-told-4 c = search needs
-
-returns-4 : tie.Need-returns-4 Inv-loop μ-loop
-returns-4 c = climbed-lost _ _ _ _ _ _ (going-v-lost _ _ _ _ _ _ _ _ (c .before .before .before .before .before .before .before .loop .inv) (c .before .before .before .before .before .if1 .taken) (c .before .before .before .if2 .left) (λ o s. sym (c .enum-told4 .given .1) ∙ c .before .before .leave-chain2 .ensures o s))
-
-v-moved-requires : tie.Need-v-moved-requires Inv-loop μ-loop
-v-moved-requires c κs = omega (arith, c .before .before .before .before .before .before .before .before .before .before .before .before .before .before .before .before .before .before .before .before .before .before .fits .chains, v-fewer _ _ _ _ _ _ _ _ (c .before .before .before .before .before .before .before .before .loop .inv) (c .before .before .before .before .before .before .if1 .taken) (c .before .before .before .before .if2 .left) _ (λ o s. sym (c .before .p3 .given .1) ∙ c .before .before .before .leave-chain2 .ensures o s))
-
-loop-less-2 : tie.Need-loop-less-2 Inv-loop μ-loop
-loop-less-2 c = going-v-less _ _ _ _ _ _ _ _ (c .before .before .before .before .before .before .before .before .before .loop .inv) (c .before .before .before .before .before .before .before .if1 .taken) (c .before .before .before .before .before .if2 .left) _ (λ o s. sym (c .before .before .p3 .given .1) ∙ c .before .before .before .before .leave-chain2 .ensures o s) (c .v-moved .ensures)
-
-loop-again-2 : tie.Need-loop-again-2 Inv-loop μ-loop
-loop-again-2 c = going-v _ _ _ _ _ _ _ _ (c .before .before .before .before .before .before .before .before .before .loop .inv) (c .before .before .before .before .before .before .before .if1 .taken) (c .before .before .before .before .before .if2 .left) _ (λ o s. sym (c .before .before .p3 .given .1) ∙ c .before .before .before .before .leave-chain2 .ensures o s) (c .v-moved .ensures)
-
-returns-5 : tie.Need-returns-5 Inv-loop μ-loop
-returns-5 c = climbed-met _ _ _ _ _ _ (c .before .before .loop .inv) (c .if1 .left)
+returns-3 : tie.Need-returns-3
+returns-3 c = climbed-there _ _ _ _ _ _ (c .before .before .before .before .before .before .before .before .stand .ensures) (c .before .before .before .before .before .before .p .given .1) (c .before .before .before .before .stand2 .ensures) (c .before .before .q .given .1) (c .climb-from .ensures)
 
 pub climb-to-lca-spec : {M : Type 1} → statement M
 climb-to-lca-spec =
     tie.close
     (tie.spec
-    Inv-loop
-    μ-loop
     stand-requires
     enum-known-p
     enum-told
     returns
     stand-requires-2
-    enum-known-r
+    enum-known-q
     enum-told-2
     returns-2
-    new-requires
-    loop-holds
-    leave-chain-requires
-    enum-known-p-2
-    enum-told-3
-    returns-3
-    u-moved-requires
-    loop-less
-    loop-again
-    leave-chain-requires-2
-    enum-known-p-3
-    enum-told-4
-    returns-4
-    v-moved-requires
-    loop-less-2
-    loop-again-2
-    returns-5)
+    climb-from-requires
+    returns-3)

@@ -8,8 +8,9 @@ use Rattle.tables.specs.Tables.{Six, six}
 use Rattle.climb.specs.declared.answers.Answer.the-variants.{Refused}
 use Rattle.climb.proofs.Passed.{Passed, verdict-passed, verdict-refused, answered, lengths, first-below, others}
 use native.Mathlib.Omega.{arith}
-use mir.Facts.{fits-widen}
-use Rattle.climb.proofs.Answering.{distance-lost, distance-met, no-deeper}
+use Rattle.climb.proofs.Climbs.{climb-off-u, climb-off-v}
+use Rattle.climb.proofs.Answering.{distance-lost, distance-met}
+use Rattle.climb.proofs.Handed.{climbs-from, climbed-is, p-placed, q-placed, p-low, q-low}
 
 abbrev lent : tie.Start → Six
 lent b = six (b .args .parent .now) (b .args .depth .now) (b .args .head .now) (b .args .id .now) (b .args .order .now) (b .args .size .now)
@@ -36,50 +37,56 @@ enum-told c = search needs
 floor-log2-requires : tie.Need-floor-log2-requires
 floor-log2-requires c κs = search needs
 
-climb-to-lca-requires : tie.Need-climb-to-lca-requires
-climb-to-lca-requires c κs = record { even = lengths (passed (c .before)) .even; limit = c .floor-log2 .ensures; u-below = first-below (passed (c .before)); v-below = first-below (others (passed (c .before))) }
+stand-requires : tie.Need-stand-requires
+stand-requires c κs = record { even = lengths (passed (c .before)) .even; vertex = first-below (passed (c .before)) }
 
-enum-known-c : tie.Need-enum-known-c
-enum-known-c c = search needs
+enum-known-p : tie.Need-enum-known-p
+enum-known-p c = search needs
 
 enum-told-2 : tie.Need-enum-told-2
 enum-told-2 c = search needs
 
 returns-2 : tie.Need-returns-2
-returns-2 c = answered (passed (c .before .before .before .before)) Refused (distance-lost _ _ _ _ (sym (c .before .before .climb-to-lca .ensures .climb _ _) ∙ c .enum-told2 .given .1))
+returns-2 c = answered (passed (c .before .before .before .before)) Refused (distance-lost _ _ _ _ (sym (climb-off-u _ _ _ _ (sym (c .before .before .stand .ensures _ _) ∙ c .enum-told2 .given .1))))
+
+stand-requires-2 : tie.Need-stand-requires-2
+stand-requires-2 c κs = record { even = lengths (passed (c .before .before .before .before .before)) .even; vertex = first-below (others (passed (c .before .before .before .before .before))) }
+
+enum-known-q : tie.Need-enum-known-q
+enum-known-q c = search needs
+
+enum-told-3 : tie.Need-enum-told-3
+enum-told-3 c = search needs
+
+returns-3 : tie.Need-returns-3
+returns-3 c = answered (passed (c .before .before .before .before .before .before .before .before)) Refused (distance-lost _ _ _ _ (sym (climb-off-v _ _ _ _ (sym (c .before .before .before .before .before .before .stand .ensures _ _) ∙ c .before .before .before .before .p .given .1) (sym (c .before .before .stand2 .ensures _ _) ∙ c .enum-told3 .given .1))))
+
+climb-from-requires : tie.Need-climb-from-requires
+climb-from-requires c κs = climbs-from _ _ _ _ _ _ (c .before .before .before .before .before .before .before .stand .ensures) (c .before .before .before .before .before .p .given .1) (c .before .before .before .stand2 .ensures) (c .before .q .given .1) (lengths (passed (c .before .before .before .before .before .before .before .before .before)) .even) (c .before .before .before .before .before .before .before .before .floor-log2 .ensures)
+
+enum-known-c : tie.Need-enum-known-c
+enum-known-c c = search needs
+
+enum-told-4 : tie.Need-enum-told-4
+enum-told-4 c = search needs
+
+returns-4 : tie.Need-returns-4
+returns-4 c = answered (passed (c .before .before .before .before .before .before .before .before .before .before .before .before)) Refused (distance-lost _ _ _ _ (climbed-is _ _ _ _ _ _ (c .before .before .before .before .before .before .before .before .before .before .stand .ensures) (c .before .before .before .before .before .before .before .before .p .given .1) (c .before .before .before .before .before .before .stand2 .ensures) (c .before .before .before .before .q .given .1) (c .before .before .climb-from .ensures) (c .enum-told4 .given .1) _ _))
 
 ancestor-requires : tie.Need-ancestor-requires
 ancestor-requires c κs = search needs
 
-mul-t17 : tie.Need-mul-t17
-mul-t17 c = omega (arith, first-below (passed (c .before .before .before .before .before .before)), lengths (passed (c .before .before .before .before .before .before)) .even .depth, c .before .before .before .before .before .before .before .before .before .before .before .before .before .before .before .before .good .1 .0 .1)
+add-t19 : tie.Need-add-t19
+add-t19 c = omega (arith, p-placed _ _ _ _ (climbs-from _ _ _ _ _ _ (c .before .before .before .before .before .before .before .before .before .before .before .before .before .before .stand .ensures) (c .before .before .before .before .before .before .before .before .before .before .before .before .p .given .1) (c .before .before .before .before .before .before .before .before .before .before .stand2 .ensures) (c .before .before .before .before .before .before .before .before .q .given .1) (lengths (passed (c .before .before .before .before .before .before .before .before .before .before .before .before .before .before .before .before)) .even) (c .before .before .before .before .before .before .before .before .before .before .before .before .before .before .before .floor-log2 .ensures)) .depth-below, q-placed _ _ _ _ (climbs-from _ _ _ _ _ _ (c .before .before .before .before .before .before .before .before .before .before .before .before .before .before .stand .ensures) (c .before .before .before .before .before .before .before .before .before .before .before .before .p .given .1) (c .before .before .before .before .before .before .before .before .before .before .stand2 .ensures) (c .before .before .before .before .before .before .before .before .q .given .1) (lengths (passed (c .before .before .before .before .before .before .before .before .before .before .before .before .before .before .before .before)) .even) (c .before .before .before .before .before .before .before .before .before .before .before .before .before .before .before .floor-log2 .ensures)) .depth-below, lengths (passed (c .before .before .before .before .before .before .before .before .before .before .before .before .before .before .before .before)) .even .depth, c .before .before .before .before .before .before .before .before .before .before .before .before .before .before .before .before .before .before .before .before .before .before .before .before .before .before .good .1 .0 .1)
 
-shared-slice-read-t21 : tie.Need-shared-slice-read-t21
-shared-slice-read-t21 c = omega (arith, first-below (passed (c .before .before .before .before .before .before .before)), lengths (passed (c .before .before .before .before .before .before .before)) .even .depth)
+mul-t26 : tie.Need-mul-t26
+mul-t26 c = omega (arith, p-placed _ _ _ _ (climbs-from _ _ _ _ _ _ (c .before .before .before .before .before .before .before .before .before .before .before .before .before .before .before .stand .ensures) (c .before .before .before .before .before .before .before .before .before .before .before .before .before .p .given .1) (c .before .before .before .before .before .before .before .before .before .before .before .stand2 .ensures) (c .before .before .before .before .before .before .before .before .before .q .given .1) (lengths (passed (c .before .before .before .before .before .before .before .before .before .before .before .before .before .before .before .before .before)) .even) (c .before .before .before .before .before .before .before .before .before .before .before .before .before .before .before .before .floor-log2 .ensures)) .depth-below, q-placed _ _ _ _ (climbs-from _ _ _ _ _ _ (c .before .before .before .before .before .before .before .before .before .before .before .before .before .before .before .stand .ensures) (c .before .before .before .before .before .before .before .before .before .before .before .before .before .p .given .1) (c .before .before .before .before .before .before .before .before .before .before .before .stand2 .ensures) (c .before .before .before .before .before .before .before .before .before .q .given .1) (lengths (passed (c .before .before .before .before .before .before .before .before .before .before .before .before .before .before .before .before .before)) .even) (c .before .before .before .before .before .before .before .before .before .before .before .before .before .before .before .before .floor-log2 .ensures)) .depth-below, lengths (passed (c .before .before .before .before .before .before .before .before .before .before .before .before .before .before .before .before .before)) .even .depth, c .before .before .before .before .before .before .before .before .before .before .before .before .before .before .before .before .before .before .before .before .before .before .before .before .before .before .before .good .1 .0 .1, p-low _ _ _ _ (climbs-from _ _ _ _ _ _ (c .before .before .before .before .before .before .before .before .before .before .before .before .before .before .before .stand .ensures) (c .before .before .before .before .before .before .before .before .before .before .before .before .before .p .given .1) (c .before .before .before .before .before .before .before .before .before .before .before .stand2 .ensures) (c .before .before .before .before .before .before .before .before .before .q .given .1) (lengths (passed (c .before .before .before .before .before .before .before .before .before .before .before .before .before .before .before .before .before)) .even) (c .before .before .before .before .before .before .before .before .before .before .before .before .before .before .before .before .floor-log2 .ensures)) (c .before .before .before .before .before .before .before .climb-from .ensures) (c .before .before .before .before .before .c .given .1) (c .before .before .before .ancestor .ensures))
 
-cast-t22 : tie.Need-cast-t22
-cast-t22 c = fits-widen tt (c .shared-slice-known7 .given _)
+sub-t27 : tie.Need-sub-t27
+sub-t27 c = omega (arith, p-low _ _ _ _ (climbs-from _ _ _ _ _ _ (c .before .before .before .before .before .before .before .before .before .before .before .before .before .before .before .stand .ensures) (c .before .before .before .before .before .before .before .before .before .before .before .before .before .p .given .1) (c .before .before .before .before .before .before .before .before .before .before .before .stand2 .ensures) (c .before .before .before .before .before .before .before .before .before .q .given .1) (lengths (passed (c .before .before .before .before .before .before .before .before .before .before .before .before .before .before .before .before .before)) .even) (c .before .before .before .before .before .before .before .before .before .before .before .before .before .before .before .before .floor-log2 .ensures)) (c .before .before .before .before .before .before .before .climb-from .ensures) (c .before .before .before .before .before .c .given .1) (c .before .before .before .ancestor .ensures), q-low _ _ _ _ (climbs-from _ _ _ _ _ _ (c .before .before .before .before .before .before .before .before .before .before .before .before .before .before .before .stand .ensures) (c .before .before .before .before .before .before .before .before .before .before .before .before .before .p .given .1) (c .before .before .before .before .before .before .before .before .before .before .before .stand2 .ensures) (c .before .before .before .before .before .before .before .before .before .q .given .1) (lengths (passed (c .before .before .before .before .before .before .before .before .before .before .before .before .before .before .before .before .before)) .even) (c .before .before .before .before .before .before .before .before .before .before .before .before .before .before .before .before .floor-log2 .ensures)) (c .before .before .before .before .before .before .before .climb-from .ensures) (c .before .before .before .before .before .c .given .1) (c .before .before .before .ancestor .ensures))
 
-mul-t23 : tie.Need-mul-t23
-mul-t23 c = omega (arith, first-below (others (passed (c .before .before .before .before .before .before .before))), lengths (passed (c .before .before .before .before .before .before .before)) .even .depth, c .before .before .before .before .before .before .before .before .before .before .before .before .before .before .before .before .before .good .1 .0 .1)
-
-shared-slice-read-t25 : tie.Need-shared-slice-read-t25
-shared-slice-read-t25 c = omega (arith, first-below (others (passed (c .before .before .before .before .before .before .before .before))), lengths (passed (c .before .before .before .before .before .before .before .before)) .even .depth)
-
-cast-t26 : tie.Need-cast-t26
-cast-t26 c = fits-widen tt (c .shared-slice-known8 .given _)
-
-add-t27 : tie.Need-add-t27
-add-t27 c = omega (arith, c .before .shared-slice-known7 .given (c .before .before .before .before .before .before .before .before .before .before .before .before .before .before .before .before .before .before .args .u), c .shared-slice-known8 .given (c .before .before .before .before .before .before .before .before .before .before .before .before .before .before .before .before .before .before .args .v))
-
-mul-t28 : tie.Need-mul-t28
-mul-t28 c = omega (arith, no-deeper (c .before .before .before .ancestor .ensures) (c .before .before .before .before .before .before .before .climb-to-lca .ensures .u-low _ (c .before .before .before .before .before .c .given .1)), c .before .before .shared-slice-known7 .given (c .before .before .before .before .before .before .before .before .before .before .before .before .before .before .before .before .before .before .before .args .u))
-
-sub-t29 : tie.Need-sub-t29
-sub-t29 c = omega (arith, no-deeper (c .before .before .before .ancestor .ensures) (c .before .before .before .before .before .before .before .climb-to-lca .ensures .u-low _ (c .before .before .before .before .before .c .given .1)), no-deeper (c .before .before .before .ancestor .ensures) (c .before .before .before .before .before .before .before .climb-to-lca .ensures .v-low _ (c .before .before .before .before .before .c .given .1)))
-
-returns-3 : tie.Need-returns-3
-returns-3 c = answered (passed (c .before .before .before .before .before .before .before .before .before)) Refused (distance-met _ _ _ _ (sym (c .before .before .before .before .before .before .before .climb-to-lca .ensures .climb _ _) ∙ c .before .before .before .before .before .c .given .1) (c .before .before .before .ancestor .ensures))
+returns-5 : tie.Need-returns-5
+returns-5 c = answered (passed (c .before .before .before .before .before .before .before .before .before .before .before .before .before .before .before .before .before)) Refused (distance-met _ _ _ _ (sym (c .before .before .before .before .before .before .before .before .before .before .before .before .before .before .before .stand .ensures _ _) ∙ c .before .before .before .before .before .before .before .before .before .before .before .before .before .p .given .1) (sym (c .before .before .before .before .before .before .before .before .before .before .before .stand2 .ensures _ _) ∙ c .before .before .before .before .before .before .before .before .before .q .given .1) (climbed-is _ _ _ _ _ _ (c .before .before .before .before .before .before .before .before .before .before .before .before .before .before .before .stand .ensures) (c .before .before .before .before .before .before .before .before .before .before .before .before .before .p .given .1) (c .before .before .before .before .before .before .before .before .before .before .before .stand2 .ensures) (c .before .before .before .before .before .before .before .before .before .q .given .1) (c .before .before .before .before .before .before .before .climb-from .ensures) (c .before .before .before .before .before .c .given .1) _ _) (c .before .before .before .ancestor .ensures))
 
 pub distance-spec : {M : Type 1} → statement M
 distance-spec =
@@ -91,18 +98,20 @@ distance-spec =
     returns
     enum-told
     floor-log2-requires
-    climb-to-lca-requires
-    enum-known-c
+    stand-requires
+    enum-known-p
     enum-told-2
     returns-2
+    stand-requires-2
+    enum-known-q
+    enum-told-3
+    returns-3
+    climb-from-requires
+    enum-known-c
+    enum-told-4
+    returns-4
     ancestor-requires
-    mul-t17
-    shared-slice-read-t21
-    cast-t22
-    mul-t23
-    shared-slice-read-t25
-    cast-t26
-    add-t27
-    mul-t28
-    sub-t29
-    returns-3)
+    add-t19
+    mul-t26
+    sub-t27
+    returns-5)

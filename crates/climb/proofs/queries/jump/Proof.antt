@@ -1,4 +1,4 @@
--- `queries::jump` meets its contract: it climbs to the ancestor, and looks up from u or from v.
+-- `queries::jump` meets its contract: it stands on u and v and jumps between their places.
 use borrow.Author.Needs.{needs}
 use Rattle.climb.proofs.queries.jump.Statement.{statement}
 use Rattle.climb.proofs.queries.jump.Tie as tie
@@ -7,9 +7,10 @@ use mathlib.Core.List.{[], _∷_}
 use Rattle.tables.specs.Tables.{Six, six}
 use Rattle.climb.specs.declared.answers.Answer.the-variants.{Refused}
 use Rattle.climb.proofs.Passed.{Passed, verdict-passed, verdict-refused, answered, lengths, first-below, others}
-use native.Mathlib.Omega.{arith}
-use mir.Facts.{fits-widen}
-use Rattle.climb.proofs.Answering.{jump-lost, jump-up, jump-far, jump-down, no-deeper}
+use Rattle.climb.proofs.Climbs.{climb-off-u, climb-off-v}
+use Rattle.climb.proofs.Answering.{jump-lost}
+use Rattle.climb.proofs.Handed.{climbs-from}
+use Rattle.climb.proofs.Jumping.{jumped-there}
 
 abbrev lent : tie.Start → Six
 lent b = six (b .args .parent .now) (b .args .depth .now) (b .args .head .now) (b .args .id .now) (b .args .order .now) (b .args .size .now)
@@ -36,86 +37,35 @@ enum-told c = search needs
 floor-log2-requires : tie.Need-floor-log2-requires
 floor-log2-requires c κs = search needs
 
-climb-to-lca-requires : tie.Need-climb-to-lca-requires
-climb-to-lca-requires c κs = record { even = lengths (passed (c .before)) .even; limit = c .floor-log2 .ensures; u-below = first-below (passed (c .before)); v-below = first-below (others (passed (c .before))) }
+stand-requires : tie.Need-stand-requires
+stand-requires c κs = record { even = lengths (passed (c .before)) .even; vertex = first-below (passed (c .before)) }
 
-enum-known-c : tie.Need-enum-known-c
-enum-known-c c = search needs
+enum-known-p : tie.Need-enum-known-p
+enum-known-p c = search needs
 
 enum-told-2 : tie.Need-enum-told-2
 enum-told-2 c = search needs
 
 returns-2 : tie.Need-returns-2
-returns-2 c = answered (passed (c .before .before .before .before)) Refused (jump-lost _ _ _ _ _ (sym (c .before .before .climb-to-lca .ensures .climb _ _) ∙ c .enum-told2 .given .1))
+returns-2 c = answered (passed (c .before .before .before .before)) Refused (jump-lost _ _ _ _ _ (sym (climb-off-u _ _ _ _ (sym (c .before .before .stand .ensures _ _) ∙ c .enum-told2 .given .1))))
 
-ancestor-requires : tie.Need-ancestor-requires
-ancestor-requires c κs = search needs
+stand-requires-2 : tie.Need-stand-requires-2
+stand-requires-2 c κs = record { even = lengths (passed (c .before .before .before .before .before)) .even; vertex = first-below (others (passed (c .before .before .before .before .before))) }
 
-mul-up : tie.Need-mul-up
-mul-up c = omega (arith, first-below (passed (c .before .before .before .before .before .before)), lengths (passed (c .before .before .before .before .before .before)) .even .depth, c .before .before .before .before .before .before .before .before .before .before .before .before .before .before .before .before .good .1 .0 .1)
-
-shared-slice-read-up : tie.Need-shared-slice-read-up
-shared-slice-read-up c = omega (arith, first-below (passed (c .before .before .before .before .before .before .before)), lengths (passed (c .before .before .before .before .before .before .before)) .even .depth)
-
-cast-up : tie.Need-cast-up
-cast-up c = fits-widen tt (c .shared-slice-known7 .given _)
-
-sub-up : tie.Need-sub-up
-sub-up c = no-deeper (c .before .before .ancestor .ensures) (c .before .before .before .before .before .before .climb-to-lca .ensures .u-low _ (c .before .before .before .before .c .given .1))
-
-mul-down : tie.Need-mul-down
-mul-down c = omega (arith, first-below (others (passed (c .before .before .before .before .before .before .before .before))), lengths (passed (c .before .before .before .before .before .before .before .before)) .even .depth, c .before .before .before .before .before .before .before .before .before .before .before .before .before .before .before .before .before .before .good .1 .0 .1)
-
-shared-slice-read-down : tie.Need-shared-slice-read-down
-shared-slice-read-down c = omega (arith, first-below (others (passed (c .before .before .before .before .before .before .before .before .before))), lengths (passed (c .before .before .before .before .before .before .before .before .before)) .even .depth)
-
-cast-down : tie.Need-cast-down
-cast-down c = fits-widen tt (c .shared-slice-known8 .given _)
-
-sub-down : tie.Need-sub-down
-sub-down c = no-deeper (c .before .before .before .before .ancestor .ensures) (c .before .before .before .before .before .before .before .before .climb-to-lca .ensures .v-low _ (c .before .before .before .before .before .before .c .given .1))
-
-ancestor-in-requires : tie.Need-ancestor-in-requires
-ancestor-in-requires c κs = record { even = lengths (passed (c .before .before .before .before .before .before .before .before .before .before .before)) .even; order = lengths (passed (c .before .before .before .before .before .before .before .before .before .before .before)) .order; limit = c .before .before .before .before .before .before .before .before .before .before .floor-log2 .ensures; vertex = first-below (passed (c .before .before .before .before .before .before .before .before .before .before .before)) }
-
-enum-known-found : tie.Need-enum-known-found
-enum-known-found c = search needs
+enum-known-q : tie.Need-enum-known-q
+enum-known-q c = search needs
 
 enum-told-3 : tie.Need-enum-told-3
 enum-told-3 c = search needs
 
 returns-3 : tie.Need-returns-3
-returns-3 c = answered (passed (c .before .before .before .before .before .before .before .before .before .before .before .before .before .before)) Refused (c .before .before .ancestor-in .ensures _ ∙ jump-up _ _ _ _ _ (sym (c .before .before .before .before .before .before .before .before .before .before .before .before .climb-to-lca .ensures .climb _ _) ∙ c .before .before .before .before .before .before .before .before .before .before .c .given .1) (c .before .before .before .before .before .before .before .before .ancestor .ensures) (c .before .before .before .if1 .taken))
+returns-3 c = answered (passed (c .before .before .before .before .before .before .before .before)) Refused (jump-lost _ _ _ _ _ (sym (climb-off-v _ _ _ _ (sym (c .before .before .before .before .before .before .stand .ensures _ _) ∙ c .before .before .before .before .p .given .1) (sym (c .before .before .stand2 .ensures _ _) ∙ c .enum-told3 .given .1))))
+
+jump-from-requires : tie.Need-jump-from-requires
+jump-from-requires c κs = record { climbs = climbs-from _ _ _ _ _ _ (c .before .before .before .before .before .before .before .stand .ensures) (c .before .before .before .before .before .p .given .1) (c .before .before .before .stand2 .ensures) (c .before .q .given .1) (lengths (passed (c .before .before .before .before .before .before .before .before .before)) .even) (c .before .before .before .before .before .before .before .before .floor-log2 .ensures); order = lengths (passed (c .before .before .before .before .before .before .before .before .before)) .order }
 
 returns-4 : tie.Need-returns-4
-returns-4 c = answered (passed (c .before .before .before .before .before .before .before .before .before .before .before .before .before .before .before)) Refused (sym (c .before .found .given .1) ∙ (c .before .before .before .ancestor-in .ensures _ ∙ jump-up _ _ _ _ _ (sym (c .before .before .before .before .before .before .before .before .before .before .before .before .before .climb-to-lca .ensures .climb _ _) ∙ c .before .before .before .before .before .before .before .before .before .before .before .c .given .1) (c .before .before .before .before .before .before .before .before .before .ancestor .ensures) (c .before .before .before .before .if1 .taken)))
-
-add-if2 : tie.Need-add-if2
-add-if2 c = omega (arith, c .before .before .before .before .shared-slice-known7 .given (c .before .before .before .before .before .before .before .before .before .before .before .before .before .before .before .before .before .before .before .before .before .args .u), c .before .before .shared-slice-known8 .given (c .before .before .before .before .before .before .before .before .before .before .before .before .before .before .before .before .before .before .before .before .before .args .v))
-
-returns-5 : tie.Need-returns-5
-returns-5 c = answered (passed (c .before .before .before .before .before .before .before .before .before .before .before .before)) Refused (jump-far _ _ _ _ _ (sym (c .before .before .before .before .before .before .before .before .before .before .climb-to-lca .ensures .climb _ _) ∙ c .before .before .before .before .before .before .before .before .c .given .1) (c .before .before .before .before .before .before .ancestor .ensures) (c .before .if1 .left) (c .if2 .taken))
-
-add-ancestor-in : tie.Need-add-ancestor-in
-add-ancestor-in c = omega (arith, c .before .before .before .before .before .shared-slice-known7 .given (c .before .before .before .before .before .before .before .before .before .before .before .before .before .before .before .before .before .before .before .before .before .before .args .u), c .before .before .before .shared-slice-known8 .given (c .before .before .before .before .before .before .before .before .before .before .before .before .before .before .before .before .before .before .before .before .before .before .args .v))
-
-sub-ancestor-in : tie.Need-sub-ancestor-in
-sub-ancestor-in c = search needs
-
-ancestor-in-requires-2 : tie.Need-ancestor-in-requires-2
-ancestor-in-requires-2 c κs = record { even = lengths (passed (c .before .before .before .before .before .before .before .before .before .before .before .before)) .even; order = lengths (passed (c .before .before .before .before .before .before .before .before .before .before .before .before)) .order; limit = c .before .before .before .before .before .before .before .before .before .before .before .floor-log2 .ensures; vertex = first-below (others (passed (c .before .before .before .before .before .before .before .before .before .before .before .before))) }
-
-enum-known-found-2 : tie.Need-enum-known-found-2
-enum-known-found-2 c = search needs
-
-enum-told-4 : tie.Need-enum-told-4
-enum-told-4 c = search needs
-
-returns-6 : tie.Need-returns-6
-returns-6 c = answered (passed (c .before .before .before .before .before .before .before .before .before .before .before .before .before .before .before)) Refused (c .before .before .ancestor-in2 .ensures _ ∙ jump-down _ _ _ _ _ (sym (c .before .before .before .before .before .before .before .before .before .before .before .before .before .climb-to-lca .ensures .climb _ _) ∙ c .before .before .before .before .before .before .before .before .before .before .before .c .given .1) (c .before .before .before .before .before .before .before .before .before .ancestor .ensures) (c .before .before .before .before .if1 .left) (c .before .before .before .if2 .left))
-
-returns-7 : tie.Need-returns-7
-returns-7 c = answered (passed (c .before .before .before .before .before .before .before .before .before .before .before .before .before .before .before .before)) Refused (sym (c .before .found2 .given .1) ∙ (c .before .before .before .ancestor-in2 .ensures _ ∙ jump-down _ _ _ _ _ (sym (c .before .before .before .before .before .before .before .before .before .before .before .before .before .before .climb-to-lca .ensures .climb _ _) ∙ c .before .before .before .before .before .before .before .before .before .before .before .before .c .given .1) (c .before .before .before .before .before .before .before .before .before .before .ancestor .ensures) (c .before .before .before .before .before .if1 .left) (c .before .before .before .before .if2 .left)))
+returns-4 c = answered (passed (c .before .before .before .before .before .before .before .before .before .before)) Refused (c .jump-from .ensures (c .before .before .before .before .before .before .before .before .before .before .before .before .before .before .before .before .before .before .before .before .args .size .now) ∙ jumped-there _ (lent (c .before .before .before .before .before .before .before .before .before .before .before .before .before .before .before .before .before .before .before .before)) _ _ _ (sym (c .before .before .before .before .before .before .before .before .stand .ensures _ _) ∙ c .before .before .before .before .before .before .p .given .1) (sym (c .before .before .before .before .stand2 .ensures _ _) ∙ c .before .before .q .given .1))
 
 pub jump-spec : {M : Type 1} → statement M
 jump-spec =
@@ -127,30 +77,13 @@ jump-spec =
     returns
     enum-told
     floor-log2-requires
-    climb-to-lca-requires
-    enum-known-c
+    stand-requires
+    enum-known-p
     enum-told-2
     returns-2
-    ancestor-requires
-    mul-up
-    shared-slice-read-up
-    cast-up
-    sub-up
-    mul-down
-    shared-slice-read-down
-    cast-down
-    sub-down
-    ancestor-in-requires
-    enum-known-found
+    stand-requires-2
+    enum-known-q
     enum-told-3
     returns-3
-    returns-4
-    add-if2
-    returns-5
-    add-ancestor-in
-    sub-ancestor-in
-    ancestor-in-requires-2
-    enum-known-found-2
-    enum-told-4
-    returns-6
-    returns-7)
+    jump-from-requires
+    returns-4)

@@ -7,7 +7,9 @@ use mathlib.Core.List.{[], _∷_}
 use Rattle.tables.specs.Tables.{Six, six}
 use Rattle.climb.specs.declared.answers.Answer.the-variants.{Refused}
 use Rattle.climb.proofs.Passed.{Passed, verdict-passed, verdict-refused, answered, lengths, first-below, others}
-use Rattle.climb.proofs.Answering.{lca-lost-1, lca-lost-2, lca-lost-3, lca-met, last-deepest}
+use Rattle.climb.proofs.Climbs.{climb-off-u, climb-off-v}
+use Rattle.climb.proofs.Answering.{lca-off-r, lca-lost-1, lca-lost-2, lca-lost-3, lca-met, last-deepest}
+use Rattle.climb.proofs.Handed.{climbs-from, climbed-is}
 
 abbrev lent : tie.Start → Six
 lent b = six (b .args .parent .now) (b .args .depth .now) (b .args .head .now) (b .args .id .now) (b .args .order .now) (b .args .size .now)
@@ -34,41 +36,77 @@ enum-told c = search needs
 floor-log2-requires : tie.Need-floor-log2-requires
 floor-log2-requires c κs = search needs
 
-climb-to-lca-requires : tie.Need-climb-to-lca-requires
-climb-to-lca-requires c κs = record { even = lengths (passed (c .before)) .even; limit = c .floor-log2 .ensures; u-below = first-below (others (passed (c .before))); v-below = first-below (others (others (passed (c .before)))) }
+stand-requires : tie.Need-stand-requires
+stand-requires c κs = record { even = lengths (passed (c .before)) .even; vertex = first-below (passed (c .before)) }
 
-enum-known-a : tie.Need-enum-known-a
-enum-known-a c = search needs
+enum-known-s : tie.Need-enum-known-s
+enum-known-s c = search needs
 
 enum-told-2 : tie.Need-enum-told-2
 enum-told-2 c = search needs
 
 returns-2 : tie.Need-returns-2
-returns-2 c = answered (passed (c .before .before .before .before)) Refused (lca-lost-1 _ _ _ _ _ (sym (c .before .before .climb-to-lca .ensures .climb _ _) ∙ c .enum-told2 .given .1))
+returns-2 c = answered (passed (c .before .before .before .before)) Refused (lca-off-r _ _ _ _ _ (sym (c .before .before .stand .ensures _ _) ∙ c .enum-told2 .given .1))
 
-climb-to-lca-requires-2 : tie.Need-climb-to-lca-requires-2
-climb-to-lca-requires-2 c κs = record { even = lengths (passed (c .before .before .before .before .before)) .even; limit = c .before .before .before .before .floor-log2 .ensures; u-below = first-below (passed (c .before .before .before .before .before)); v-below = first-below (others (passed (c .before .before .before .before .before))) }
+stand-requires-2 : tie.Need-stand-requires-2
+stand-requires-2 c κs = record { even = lengths (passed (c .before .before .before .before .before)) .even; vertex = first-below (others (passed (c .before .before .before .before .before))) }
 
-enum-known-b : tie.Need-enum-known-b
-enum-known-b c = search needs
+enum-known-p : tie.Need-enum-known-p
+enum-known-p c = search needs
 
 enum-told-3 : tie.Need-enum-told-3
 enum-told-3 c = search needs
 
 returns-3 : tie.Need-returns-3
-returns-3 c = answered (passed (c .before .before .before .before .before .before .before .before)) Refused (lca-lost-2 _ _ _ _ _ (sym (c .before .before .before .before .before .before .climb-to-lca .ensures .climb _ _) ∙ c .before .before .before .before .a .given .1) (sym (c .before .before .climb-to-lca2 .ensures .climb _ _) ∙ c .enum-told3 .given .1))
+returns-3 c = answered (passed (c .before .before .before .before .before .before .before .before)) Refused (lca-lost-1 _ _ _ _ _ (sym (climb-off-u _ _ _ _ (sym (c .before .before .stand2 .ensures _ _) ∙ c .enum-told3 .given .1))))
 
-climb-to-lca-requires-3 : tie.Need-climb-to-lca-requires-3
-climb-to-lca-requires-3 c κs = record { even = lengths (passed (c .before .before .before .before .before .before .before .before .before)) .even; limit = c .before .before .before .before .before .before .before .before .floor-log2 .ensures; u-below = first-below (passed (c .before .before .before .before .before .before .before .before .before)); v-below = first-below (others (others (passed (c .before .before .before .before .before .before .before .before .before)))) }
+stand-requires-3 : tie.Need-stand-requires-3
+stand-requires-3 c κs = record { even = lengths (passed (c .before .before .before .before .before .before .before .before .before)) .even; vertex = first-below (others (others (passed (c .before .before .before .before .before .before .before .before .before)))) }
 
-enum-known-c : tie.Need-enum-known-c
-enum-known-c c = search needs
+enum-known-q : tie.Need-enum-known-q
+enum-known-q c = search needs
 
 enum-told-4 : tie.Need-enum-told-4
 enum-told-4 c = search needs
 
 returns-4 : tie.Need-returns-4
-returns-4 c = answered (passed (c .before .before .before .before .before .before .before .before .before .before .before .before)) Refused (lca-lost-3 _ _ _ _ _ (sym (c .before .before .before .before .before .before .before .before .before .before .climb-to-lca .ensures .climb _ _) ∙ c .before .before .before .before .before .before .before .before .a .given .1) (sym (c .before .before .before .before .before .before .climb-to-lca2 .ensures .climb _ _) ∙ c .before .before .before .before .b .given .1) (sym (c .before .before .climb-to-lca3 .ensures .climb _ _) ∙ c .enum-told4 .given .1))
+returns-4 c = answered (passed (c .before .before .before .before .before .before .before .before .before .before .before .before)) Refused (lca-lost-1 _ _ _ _ _ (sym (climb-off-v _ _ _ _ (sym (c .before .before .before .before .before .before .stand2 .ensures _ _) ∙ c .before .before .before .before .p .given .1) (sym (c .before .before .stand3 .ensures _ _) ∙ c .enum-told4 .given .1))))
+
+climb-from-requires : tie.Need-climb-from-requires
+climb-from-requires c κs = climbs-from _ _ _ _ _ _ (c .before .before .before .before .before .before .before .stand2 .ensures) (c .before .before .before .before .before .p .given .1) (c .before .before .before .stand3 .ensures) (c .before .q .given .1) (lengths (passed (c .before .before .before .before .before .before .before .before .before .before .before .before .before)) .even) (c .before .before .before .before .before .before .before .before .before .before .before .before .floor-log2 .ensures)
+
+enum-known-a : tie.Need-enum-known-a
+enum-known-a c = search needs
+
+enum-told-5 : tie.Need-enum-told-5
+enum-told-5 c = search needs
+
+returns-5 : tie.Need-returns-5
+returns-5 c = answered (passed (c .before .before .before .before .before .before .before .before .before .before .before .before .before .before .before .before)) Refused (lca-lost-1 _ _ _ _ _ (climbed-is _ _ _ _ _ _ (c .before .before .before .before .before .before .before .before .before .before .stand2 .ensures) (c .before .before .before .before .before .before .before .before .p .given .1) (c .before .before .before .before .before .before .stand3 .ensures) (c .before .before .before .before .q .given .1) (c .before .before .climb-from .ensures) (c .enum-told5 .given .1) _ _))
+
+climb-from-requires-2 : tie.Need-climb-from-requires-2
+climb-from-requires-2 c κs = climbs-from _ _ _ _ _ _ (c .before .before .before .before .before .before .before .before .before .before .before .before .before .before .before .stand .ensures) (c .before .before .before .before .before .before .before .before .before .before .before .before .before .s .given .1) (c .before .before .before .before .before .before .before .before .before .before .before .stand2 .ensures) (c .before .before .before .before .before .before .before .before .before .p .given .1) (lengths (passed (c .before .before .before .before .before .before .before .before .before .before .before .before .before .before .before .before .before)) .even) (c .before .before .before .before .before .before .before .before .before .before .before .before .before .before .before .before .floor-log2 .ensures)
+
+enum-known-b : tie.Need-enum-known-b
+enum-known-b c = search needs
+
+enum-told-6 : tie.Need-enum-told-6
+enum-told-6 c = search needs
+
+returns-6 : tie.Need-returns-6
+returns-6 c = answered (passed (c .before .before .before .before .before .before .before .before .before .before .before .before .before .before .before .before .before .before .before .before)) Refused (lca-lost-2 _ _ _ _ _ (climbed-is _ _ _ _ _ _ (c .before .before .before .before .before .before .before .before .before .before .before .before .before .before .stand2 .ensures) (c .before .before .before .before .before .before .before .before .before .before .before .before .p .given .1) (c .before .before .before .before .before .before .before .before .before .before .stand3 .ensures) (c .before .before .before .before .before .before .before .before .q .given .1) (c .before .before .before .before .before .before .climb-from .ensures) (c .before .before .before .before .a .given .1) _ _) (climbed-is _ _ _ _ _ _ (c .before .before .before .before .before .before .before .before .before .before .before .before .before .before .before .before .before .before .stand .ensures) (c .before .before .before .before .before .before .before .before .before .before .before .before .before .before .before .before .s .given .1) (c .before .before .before .before .before .before .before .before .before .before .before .before .before .before .stand2 .ensures) (c .before .before .before .before .before .before .before .before .before .before .before .before .p .given .1) (c .before .before .climb-from2 .ensures) (c .enum-told6 .given .1) _ _))
+
+climb-from-requires-3 : tie.Need-climb-from-requires-3
+climb-from-requires-3 c κs = climbs-from _ _ _ _ _ _ (c .before .before .before .before .before .before .before .before .before .before .before .before .before .before .before .before .before .before .before .stand .ensures) (c .before .before .before .before .before .before .before .before .before .before .before .before .before .before .before .before .before .s .given .1) (c .before .before .before .before .before .before .before .before .before .before .before .stand3 .ensures) (c .before .before .before .before .before .before .before .before .before .q .given .1) (lengths (passed (c .before .before .before .before .before .before .before .before .before .before .before .before .before .before .before .before .before .before .before .before .before)) .even) (c .before .before .before .before .before .before .before .before .before .before .before .before .before .before .before .before .before .before .before .before .floor-log2 .ensures)
+
+enum-known-c : tie.Need-enum-known-c
+enum-known-c c = search needs
+
+enum-told-7 : tie.Need-enum-told-7
+enum-told-7 c = search needs
+
+returns-7 : tie.Need-returns-7
+returns-7 c = answered (passed (c .before .before .before .before .before .before .before .before .before .before .before .before .before .before .before .before .before .before .before .before .before .before .before .before)) Refused (lca-lost-3 _ _ _ _ _ (climbed-is _ _ _ _ _ _ (c .before .before .before .before .before .before .before .before .before .before .before .before .before .before .before .before .before .before .stand2 .ensures) (c .before .before .before .before .before .before .before .before .before .before .before .before .before .before .before .before .p .given .1) (c .before .before .before .before .before .before .before .before .before .before .before .before .before .before .stand3 .ensures) (c .before .before .before .before .before .before .before .before .before .before .before .before .q .given .1) (c .before .before .before .before .before .before .before .before .before .before .climb-from .ensures) (c .before .before .before .before .before .before .before .before .a .given .1) _ _) (climbed-is _ _ _ _ _ _ (c .before .before .before .before .before .before .before .before .before .before .before .before .before .before .before .before .before .before .before .before .before .before .stand .ensures) (c .before .before .before .before .before .before .before .before .before .before .before .before .before .before .before .before .before .before .before .before .s .given .1) (c .before .before .before .before .before .before .before .before .before .before .before .before .before .before .before .before .before .before .stand2 .ensures) (c .before .before .before .before .before .before .before .before .before .before .before .before .before .before .before .before .p .given .1) (c .before .before .before .before .before .before .climb-from2 .ensures) (c .before .before .before .before .b .given .1) _ _) (climbed-is _ _ _ _ _ _ (c .before .before .before .before .before .before .before .before .before .before .before .before .before .before .before .before .before .before .before .before .before .before .stand .ensures) (c .before .before .before .before .before .before .before .before .before .before .before .before .before .before .before .before .before .before .before .before .s .given .1) (c .before .before .before .before .before .before .before .before .before .before .before .before .before .before .stand3 .ensures) (c .before .before .before .before .before .before .before .before .before .before .before .before .q .given .1) (c .before .before .climb-from3 .ensures) (c .enum-told7 .given .1) _ _))
 
 ancestor-requires : tie.Need-ancestor-requires
 ancestor-requires c κs = search needs
@@ -94,10 +132,8 @@ array-copy-out-deeper-3 c = search needs
 deeper-requires-2 : tie.Need-deeper-requires-2
 deeper-requires-2 c κs = search needs
 
-returns-5 : tie.Need-returns-5
-returns-5 c = answered (passed (c .before .before .before .before .before .before .before .before .before .before .before .before .before .before .before .before .before .before .before .before .before)) Refused
-    (lca-met _ _ _ _ _ (sym (c .before .before .before .before .before .before .before .before .before .before .before .before .before .before .before .before .before .before .before .climb-to-lca .ensures .climb _ _) ∙ c .before .before .before .before .before .before .before .before .before .before .before .before .before .before .before .before .before .a .given .1) (sym (c .before .before .before .before .before .before .before .before .before .before .before .before .before .before .before .climb-to-lca2 .ensures .climb _ _) ∙ c .before .before .before .before .before .before .before .before .before .before .before .before .before .b .given .1) (sym (c .before .before .before .before .before .before .before .before .before .before .before .climb-to-lca3 .ensures .climb _ _) ∙ c .before .before .before .before .before .before .before .before .before .c .given .1)
-    (last-deepest (c .before .before .before .before .before .before .before .ancestor .ensures) (c .before .before .before .before .before .before .ancestor2 .ensures) (c .before .before .before .before .before .ancestor3 .ensures) (c .before .before .deeper .ensures) (c .deeper2 .ensures)))
+returns-8 : tie.Need-returns-8
+returns-8 c = answered (passed (c .before .before .before .before .before .before .before .before .before .before .before .before .before .before .before .before .before .before .before .before .before .before .before .before .before .before .before .before .before .before .before .before .before)) Refused (lca-met _ _ _ _ _ (climbed-is _ _ _ _ _ _ (c .before .before .before .before .before .before .before .before .before .before .before .before .before .before .before .before .before .before .before .before .before .before .before .before .before .before .before .stand2 .ensures) (c .before .before .before .before .before .before .before .before .before .before .before .before .before .before .before .before .before .before .before .before .before .before .before .before .before .p .given .1) (c .before .before .before .before .before .before .before .before .before .before .before .before .before .before .before .before .before .before .before .before .before .before .before .stand3 .ensures) (c .before .before .before .before .before .before .before .before .before .before .before .before .before .before .before .before .before .before .before .before .before .q .given .1) (c .before .before .before .before .before .before .before .before .before .before .before .before .before .before .before .before .before .before .before .climb-from .ensures) (c .before .before .before .before .before .before .before .before .before .before .before .before .before .before .before .before .before .a .given .1) _ _) (climbed-is _ _ _ _ _ _ (c .before .before .before .before .before .before .before .before .before .before .before .before .before .before .before .before .before .before .before .before .before .before .before .before .before .before .before .before .before .before .before .stand .ensures) (c .before .before .before .before .before .before .before .before .before .before .before .before .before .before .before .before .before .before .before .before .before .before .before .before .before .before .before .before .before .s .given .1) (c .before .before .before .before .before .before .before .before .before .before .before .before .before .before .before .before .before .before .before .before .before .before .before .before .before .before .before .stand2 .ensures) (c .before .before .before .before .before .before .before .before .before .before .before .before .before .before .before .before .before .before .before .before .before .before .before .before .before .p .given .1) (c .before .before .before .before .before .before .before .before .before .before .before .before .before .before .before .climb-from2 .ensures) (c .before .before .before .before .before .before .before .before .before .before .before .before .before .b .given .1) _ _) (climbed-is _ _ _ _ _ _ (c .before .before .before .before .before .before .before .before .before .before .before .before .before .before .before .before .before .before .before .before .before .before .before .before .before .before .before .before .before .before .before .stand .ensures) (c .before .before .before .before .before .before .before .before .before .before .before .before .before .before .before .before .before .before .before .before .before .before .before .before .before .before .before .before .before .s .given .1) (c .before .before .before .before .before .before .before .before .before .before .before .before .before .before .before .before .before .before .before .before .before .before .before .stand3 .ensures) (c .before .before .before .before .before .before .before .before .before .before .before .before .before .before .before .before .before .before .before .before .before .q .given .1) (c .before .before .before .before .before .before .before .before .before .before .before .climb-from3 .ensures) (c .before .before .before .before .before .before .before .before .before .c .given .1) _ _) (last-deepest (c .before .before .before .before .before .before .before .ancestor .ensures) (c .before .before .before .before .before .before .ancestor2 .ensures) (c .before .before .before .before .before .ancestor3 .ensures) (c .before .before .deeper .ensures) (c .deeper2 .ensures)))
 
 pub lca-spec : {M : Type 1} → statement M
 lca-spec =
@@ -109,18 +145,30 @@ lca-spec =
     returns
     enum-told
     floor-log2-requires
-    climb-to-lca-requires
-    enum-known-a
+    stand-requires
+    enum-known-s
     enum-told-2
     returns-2
-    climb-to-lca-requires-2
-    enum-known-b
+    stand-requires-2
+    enum-known-p
     enum-told-3
     returns-3
-    climb-to-lca-requires-3
-    enum-known-c
+    stand-requires-3
+    enum-known-q
     enum-told-4
     returns-4
+    climb-from-requires
+    enum-known-a
+    enum-told-5
+    returns-5
+    climb-from-requires-2
+    enum-known-b
+    enum-told-6
+    returns-6
+    climb-from-requires-3
+    enum-known-c
+    enum-told-7
+    returns-7
     ancestor-requires
     ancestor-requires-2
     ancestor-requires-3
@@ -129,4 +177,4 @@ lca-spec =
     deeper-requires
     array-copy-out-deeper-3
     deeper-requires-2
-    returns-5)
+    returns-8)
