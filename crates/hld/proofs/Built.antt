@@ -14,11 +14,11 @@ use Rattle.passes.specs.Passes.{from, run, heavyOf, region, Weighed, Ranked, We
 use Rattle.visit.specs.Visit.{Visited, queueIn, upIn}
 use Rattle.visit.proofs.Positions.{Places, places, visited-same}
 use Rattle.tables.specs.Tables.{Six, Long, TablesOf}
-use Rattle.hld.specs.Scatter.{ScatterAsks, Filled}
+use Rattle.scatter.specs.Scatter.{ScatterAsks, Filled}
 use Rattle.hld.proofs.Rising.{from-in}
 use Rattle.hld.proofs.Tabled.{Holds, table-span, table-arrangement}
 use Rattle.hld.proofs.Ranks.{tops-below, ranks-injective, ranks-below}
-use Rattle.hld.proofs.Filling.{parent-first, parent-later}
+use Rattle.scatter.proofs.Filling.{parent-first, parent-later}
 
 -- weights are told by the parents of the positions below n alone
 pub weighed-same : {n : ℕ} {p p′ s h : ℕ → ℕ} → ((j : ℕ) → 0 < j → j < n → p j ≡ p′ j) → Weighed n p s h → Weighed n p′ s h

@@ -3,7 +3,6 @@ pub mod Children
 pub mod Carried
 pub mod Tabled
 pub mod Ranks
-pub mod Filling
 pub mod Built
 pub mod Meaning
 pub mod Whole

@@ -18,7 +18,7 @@ use Rattle.graph.proofs.Neighbours.{list-below}
 use Rattle.validate.specs.Judged.{JudgeAsks, Judged}
 use Rattle.tables.specs.Tables.{Six}
 use Rattle.passes.specs.Passes.{WeighAsks, WeighAnswers, NumberAsks, NumberAnswers}
-use Rattle.hld.specs.Scatter.{ScatterAsks, Filled}
+use Rattle.scatter.specs.Scatter.{ScatterAsks, Filled}
 use Rattle.hld.specs.Build.{Fits, Builds}
 use Rattle.hld.specs.Steps.{BuildAsks, Built}
 use Rattle.hld.proofs.Built.{weigh-asks, number-asks, scatter-asks, tables-built}

@@ -1,3 +1,2 @@
 pub mod Build
-pub mod Scatter
 pub mod Steps

@@ -1,5 +1,4 @@
 // The build of the six tables.
-use crate::scatter::scatter;
 use graph::codes::BAD_SIZE;
 use graph::codes::DONE;
 use graph::codes::NO_ROOM;
@@ -7,6 +6,7 @@ use graph::lists::sized;
 use graph::work::zero;
 use passes::number;
 use passes::weigh;
+use scatter::scatter;
 use validate::judge;
 ghost use Rattle.graph.specs.Judgement.{Decides};
 ghost use Rattle.tables.specs.Tables.{six, Long};

@@ -1,3 +1,2 @@
 // Heavy-light decomposition: the six tables of a tree.
 pub mod build;
-pub mod scatter;

@@ -8,7 +8,7 @@ use passes::UP;
 ghost use Prim.Native.Nat.{_<_};
 ghost use mathlib.Core.Path.{_≡_};
 ghost use Rattle.tables.specs.Tables.{six};
-ghost use Rattle.hld.specs.Scatter.{Parented, parentAt, scattered, ScatterAsks, Filled};
+ghost use Rattle.scatter.specs.Scatter.{Parented, parentAt, scattered, ScatterAsks, Filled};
 
 // The parent of the vertex at position j, NO_PARENT at the first.
 fn parent_at(n: usize, j: usize, work: &[u32]) -> u32

@@ -12,7 +12,7 @@ use Rattle.graph.specs.Limits.{noParent}
 use Rattle.graph.proofs.Frames.{at-set-same, at-set-other}
 use Rattle.passes.specs.Passes.{region}
 use Rattle.tables.specs.Tables.{Six, Long}
-use Rattle.hld.specs.Scatter.{parentAt, scattered, ScatterAsks, Filled, Parented}
+use Rattle.scatter.specs.Scatter.{parentAt, scattered, ScatterAsks, Filled, Parented}
 
 pub parent-first : (n : ℕ) (w : List ℕ) (j : ℕ) → j ≡ 0 → parentAt n w j ≡ noParent
 parent-first n w j e = rw (eq-eqb j 0 e, parentAt)

@@ -1,12 +1,12 @@
-use Rattle.hld.proofs.scatter.scatter.Statement.{statement}
-use Rattle.hld.proofs.scatter.scatter.Tie as tie
+use Rattle.scatter.proofs.scatter.Statement.{statement}
+use Rattle.scatter.proofs.scatter.Tie as tie
 use borrow.Author.Needs.{needs}
 use Prim.Native.Nat.{_≤_, _-_}
 use native.Mathlib.Omega.{arith}
 use mathlib.Core.Path.{sym, subst, _∙_}
 use Rattle.tables.specs.Tables.{six}
-use Rattle.hld.specs.Scatter.{Filled}
-use Rattle.hld.proofs.Filling.{filled-none, filled-more, filled-all, still-asks}
+use Rattle.scatter.specs.Scatter.{Filled}
+use Rattle.scatter.proofs.Filling.{filled-none, filled-more, filled-all, still-asks}
 
 abbrev Inv-loop : tie.InvT-loop
 Inv-loop n parent₀ depth₀ head₀ id₀ order₀ size₀ work j₀ parent depth head id order size j = Filled n work j (six parent depth head id order size) × (j ≤ n)

@@ -1,9 +1,9 @@
 use borrow.Author.Needs.{needs}
-use Rattle.hld.proofs.scatter.scatter_one.Statement.{statement}
-use Rattle.hld.proofs.scatter.scatter_one.Tie as tie
+use Rattle.scatter.proofs.scatter_one.Statement.{statement}
+use Rattle.scatter.proofs.scatter_one.Tie as tie
 use native.Mathlib.Omega.{arith}
 use mir.Facts.{fits-widen}
-use Rattle.hld.proofs.Filling.{parented}
+use Rattle.scatter.proofs.Filling.{parented}
 
 mul-v : tie.Need-mul-v
 mul-v c = search needs

@@ -1,11 +1,11 @@
 use borrow.Author.Needs.{needs}
-use Rattle.hld.proofs.scatter.parent_at.Statement.{statement}
-use Rattle.hld.proofs.scatter.parent_at.Tie as tie
+use Rattle.scatter.proofs.parent_at.Statement.{statement}
+use Rattle.scatter.proofs.parent_at.Tie as tie
 use native.Mathlib.Omega.{arith}
 use mathlib.Core.Path.{sym}
 use mir.Facts.{fits-widen}
 use Rattle.graph.specs.Limits.{noParent}
-use Rattle.hld.proofs.Filling.{parent-first, parent-later}
+use Rattle.scatter.proofs.Filling.{parent-first, parent-later}
 
 returns : tie.Need-returns
 unfolding noParent
