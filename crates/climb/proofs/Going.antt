@@ -1,22 +1,24 @@
 -- The state of a climb under way, as the loop of `climb_from` keeps it: it begins, goes on by one move, and ends.
-use Prim.Native.Nat.{ℕ, suc, _+_, _-_, _*_, _≤_, _<_}
+use Prim.Native.Nat.{ℕ, suc, _+_, _-_, _*_, _^_, _≤_, _<_}
 use native.Mathlib.Omega.{arith}
 use native.Mathlib.Decide.{decLe}
-use mathlib.Core.Path.{_≡_, sym, ap, _∙_, subst}
+use mathlib.Core.Path.{_≡_, refl, sym, ap, _∙_, subst}
 use mathlib.Core.List.{List, []}
 use lib.ListN.{length}
 use borrow.Author.Tests.{le-leb, lt-leb}
 use Rattle.sums.specs.Sum.{at}
 use Rattle.numbering.specs.Log.{log2}
 use Rattle.tables.specs.Tables.{Six, six}
-use Rattle.climb.specs.Climbing.{climbing, climbTo, climbStart, uMoved, vMoved, ancestorOf}
+use Rattle.climb.specs.Climbing.{leaveChain, climbing, climbTo, climbStart, uMoved, vMoved, moverOf, leftOf, movedTo, ancestorOf}
 use Rattle.climb.specs.Inner.{Placed, ClimbsFrom, ClimbedTo, StoodOn, Left}
 use Rattle.climb.specs.declared.places.Place.{Place}
 use Rattle.climb.specs.declared.places.Climb.{Climb}
+use Rattle.climb.specs.declared.places.Stood.{Stood}
 use Rattle.climb.specs.declared.places.Stood.the-variants.{On, Unsound}
 use Rattle.climb.specs.declared.places.Climbed.{Climbed}
 use Rattle.climb.specs.declared.places.Climbed.the-variants.{Met, Lost}
 use Rattle.climb.proofs.Soundness.{stood-place, stood-placed}
+use Rattle.climb.proofs.Logs.{log2-word}
 use Rattle.climb.proofs.Climbs.{Moved, moved, climb-met, climb-u, climb-u-lost, climb-v, climb-v-lost, climb-from}
 
 -- the chains that both sides may still leave
@@ -64,6 +66,22 @@ module _ (P D H I : List ℕ) (chains u v : ℕ) where
   module _ (c : Climb) (g : Going P D H I chains u v c) where
     pub going-met : c .u .head ≡ c .v .head → (o s : List ℕ) → Met c ≡ climbTo (length P) (six P D H I o s) u v
     going-met e o s = sym (climb-met (chainsLeft chains c) (length P) (six P D H I o s) c e) ∙ g .same o s
+
+    -- the end that moves is sound, and its side has left no more chains than it may, which is less than 64
+    pub mover-placed : Placed (length P) D (moverOf c)
+    mover-placed = elim (decLe (c .v .top) (c .u .top)) [
+      | yes h ↦ rw (le-leb (c .v .top) (c .u .top) h) (g .u-placed)
+      | no h ↦ rw (lt-leb (c .v .top) (c .u .top) (omega arith)) (g .v-placed)
+    ]
+
+    mover-few : leftOf c ≤ chains
+    mover-few = elim (decLe (c .v .top) (c .u .top)) [
+      | yes h ↦ rw (le-leb (c .v .top) (c .u .top) h) (g .u-few)
+      | no h ↦ rw (lt-leb (c .v .top) (c .u .top) (omega arith)) (g .v-few)
+    ]
+
+    pub mover-word : length P < 2 ^ 64 → leftOf c < 64
+    mover-word h = omega (arith, mover-few, g .limit, log2-word (length P) h)
 
     module _ (apart : c .u .head ≡ c .v .head → ⊥) where
       module _ (h : c .v .top ≤ c .u .top) where
@@ -144,12 +162,49 @@ module _ (P D H I : List ℕ) (chains u v : ℕ) where
           pub going-v : {d : Climb} → d ≡ vMoved c q → Going P D H I chains u v d
           going-v e = subst (Going P D H I chains u v) (sym e) step-v
 
+      -- the same of whichever side moves, with the place m and the number k that were found for it
+      module _ {m : Place} {k : ℕ} (is-m : m ≡ moverOf c) (is-k : k ≡ leftOf c) {r : Stood} (left : Left P D H I m k r) where
+        mover-left : {x : Stood} → r ≡ x → Left P D H I (moverOf c) (leftOf c) x
+        mover-left e o s =
+            sym e
+            ∙ (left o s
+            ∙ (ap (λ (p : Place). leaveChain (length P) (six P D H I o s) p k) is-m
+            ∙ ap (λ (j : ℕ). leaveChain (length P) (six P D H I o s) (moverOf c) j) is-k))
+
+        pub going-lost : r ≡ Unsound → (o s : List ℕ) → Lost ≡ climbTo (length P) (six P D H I o s) u v
+        going-lost e =
+            let l = mover-left e in
+            elim (decLe (c .v .top) (c .u .top)) [
+              | yes h ↦ going-u-lost h (rw (le-leb (c .v .top) (c .u .top) h) at l)
+              | no h ↦ let f : c .u .top < c .v .top = omega arith in going-v-lost f (rw (lt-leb (c .v .top) (c .u .top) f) at l)
+            ]
+
+        module _ {q : Place} (on : r ≡ On q) where
+          moves : Going P D H I chains u v (movedTo c q) × (chainsLeft chains (movedTo c q) < chainsLeft chains c)
+          moves =
+              let l = mover-left on in
+              elim (decLe (c .v .top) (c .u .top)) [
+                | yes h ↦
+                    let a : Left P D H I (c .u) (c .«u_count») (On q) = rw (le-leb (c .v .top) (c .u .top) h) at l in
+                    rw (le-leb (c .v .top) (c .u .top) h) (step-u h q a, less-u h q a)
+                | no h ↦
+                    let f : c .u .top < c .v .top = omega arith in
+                    let a : Left P D H I (c .v) (c .«v_count») (On q) = rw (lt-leb (c .v .top) (c .u .top) f) at l in
+                    rw (lt-leb (c .v .top) (c .u .top) f) (step-v f q a, less-v f q a)
+              ]
+
+          pub going-on : {d : Climb} → d ≡ movedTo c q → Going P D H I chains u v d
+          going-on e = subst (Going P D H I chains u v) (sym e) (moves .0)
+
+          pub going-less : {d : Climb} → d ≡ movedTo c q → chainsLeft chains d < chainsLeft chains c
+          going-less e = subst (λ (d : Climb). chainsLeft chains d < chainsLeft chains c) (sym e) (moves .1)
+
 -- a climb from two places that were stood on begins at their vertices
 module _ (P D H I : List ℕ) {p q : Place} {c : Climb} (new : c ≡ climbStart p q) where
-  pub going-begins : {chains : ℕ} → ClimbsFrom P D H I chains p q → Going P D H I chains (c .u .vertex) (c .v .vertex) c
-  going-begins {chains} pre =
-      subst (λ (d : Climb). Going P D H I chains (d .u .vertex) (d .v .vertex) d) (sym new)
-      (start P D H I chains (p .vertex) (q .vertex) (pre .limit) (pre .on-p) (pre .on-q))
+  pub going-begins : ClimbsFrom P D H I p q → Going P D H I (log2 (length P)) (c .u .vertex) (c .v .vertex) c
+  going-begins pre =
+      subst (λ (d : Climb). Going P D H I (log2 (length P)) (d .u .vertex) (d .v .vertex) d) (sym new)
+      (start P D H I (log2 (length P)) (p .vertex) (q .vertex) refl (pre .on-p) (pre .on-q))
 
   -- and ends as the climb from those two
   pub climbed-begun : {r : Climbed} → ClimbedTo P D H I (c .u .vertex) (c .v .vertex) r → ClimbedTo P D H I (p .vertex) (q .vertex) r

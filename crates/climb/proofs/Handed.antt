@@ -5,7 +5,6 @@ use mathlib.Core.Path.{_≡_, sym, _∙_, subst}
 use mathlib.Core.List.{List, []}
 use lib.ListN.{length}
 use Rattle.sums.specs.Sum.{at}
-use Rattle.numbering.specs.Log.{log2}
 use Rattle.tables.specs.Tables.{six}
 use Rattle.climb.specs.Sound.{standOn}
 use Rattle.climb.specs.Climbing.{climbTo, ancestorOf}
@@ -17,7 +16,10 @@ use Rattle.climb.specs.declared.places.Stood.the-variants.{On}
 use Rattle.climb.specs.declared.places.Climbed.{Climbed}
 use Rattle.climb.specs.declared.places.Climbed.the-variants.{Met}
 use Rattle.climb.proofs.Soundness.{stood-placed, stood-vertex, stood-depth, stood-again}
-use Rattle.climb.proofs.Answering.{no-deeper}
+
+-- a bound on the ancestor's depth holds of the place that was found
+no-deeper : {w a : Place} {d : ℕ} → w ≡ a → a .depth ≤ d → w .depth ≤ d
+no-deeper {w} {a} {d} e h = subst (λ (q : Place). q .depth ≤ d) (sym e) h
 
 -- p is where one stands on x
 module _ (P D H I : List ℕ) (x : ℕ) {a : Stood} {p : Place} (stands : StoodOn P D H I x a) (on : a ≡ On p) where
@@ -36,9 +38,8 @@ module _ (P D H I : List ℕ) (x : ℕ) {a : Stood} {p : Place} (stands : StoodO
 module _ (P D H I : List ℕ) (u v : ℕ) {a b : Stood} {p q : Place}
     (stands-u : StoodOn P D H I u a) (on-u : a ≡ On p) (stands-v : StoodOn P D H I v b) (on-v : b ≡ On q) where
   -- so that one may climb from them
-  pub climbs-from : Even P D H I → {chains : ℕ} → chains ≡ log2 (length P) → ClimbsFrom P D H I chains p q
-  climbs-from even limit =
-      record { even = even; limit = limit; on-p = stood-still P D H I u stands-u on-u; on-q = stood-still P D H I v stands-v on-v }
+  pub climbs-from : Even P D H I → ClimbsFrom P D H I p q
+  climbs-from even = record { even = even; on-p = stood-still P D H I u stands-u on-u; on-q = stood-still P D H I v stands-v on-v }
 
   -- the climb from there is the climb from u and v
   pub climbed-there : {r : Climbed} → ClimbedTo P D H I (p .vertex) (q .vertex) r → ClimbedTo P D H I u v r
@@ -51,7 +52,7 @@ module _ (P D H I : List ℕ) (u v : ℕ) {a b : Stood} {p q : Place}
   climbed-is c e o s = sym (climbed-there c .climb o s) ∙ e
 
 -- what it tells that one may climb from p and q
-module _ (P D H I : List ℕ) {chains : ℕ} {p q : Place} (pre : ClimbsFrom P D H I chains p q) where
+module _ (P D H I : List ℕ) {p q : Place} (pre : ClimbsFrom P D H I p q) where
   -- they are sound
   pub p-placed : Placed (length P) D p
   p-placed = stood-placed (length P) (six P D H I [] []) (p .vertex) (sym (pre .on-p [] []))

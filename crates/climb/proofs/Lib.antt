@@ -2,11 +2,6 @@ pub mod Choices
 pub mod Soundness
 pub mod Climbs
 pub mod Going
-pub mod Rising
 pub mod Passed
-pub mod Reading
-pub mod Answering
 pub mod Handed
-pub mod Jumping
-pub mod Counting
 pub mod Logs

@@ -12,7 +12,7 @@ use borrow.Author.Tests.{lt-ltb, le-ltb, ltb-true, leb-true, eqb-true}
 use Rattle.graph.specs.Limits.{maxVertices}
 use Rattle.tables.specs.Tables.{Six}
 use Rattle.climb.specs.Choice.{pick, both}
-use Rattle.climb.specs.Queries.{sizeOf, tables?, vertices?, asked}
+use Rattle.climb.specs.Asked.{sizeOf, tables?, vertices?, asked}
 use Rattle.climb.specs.Inner.{Even}
 use Rattle.climb.specs.declared.answers.Refusal.{Refusal}
 use Rattle.climb.specs.declared.answers.Refusal.the-variants.{BadSize, BadVertex}

@@ -26,6 +26,16 @@ uMoved c p = record { u = p; v = c .v; «u_count» = c .«u_count» + 1; «v_cou
 abbrev pub vMoved : Climb → Place → Climb
 vMoved c p = record { u = c .u; v = p; «u_count» = c .«u_count»; «v_count» = c .«v_count» + 1 }
 
+-- "the side with the deeper head moves, u on a tie": the end that moves, how many chains its side has left, and the state after its move to p
+abbrev pub moverOf : Climb → Place
+moverOf c = pick (leb (c .v .top) (c .u .top)) (c .u) (c .v)
+
+abbrev pub leftOf : Climb → ℕ
+leftOf c = pick (leb (c .v .top) (c .u .top)) (c .«u_count») (c .«v_count»)
+
+abbrev pub movedTo : Climb → Place → Climb
+movedTo c p = pick (leb (c .v .top) (c .u .top)) (uMoved c p) (vMoved c p)
+
 -- "While heads differ, the side with the deeper head moves, u on a tie", in at most the given number of looks
 unfoldable pub climbing : ℕ → ℕ → Six → Climb → Climbed
 climbing zero n t c = Lost

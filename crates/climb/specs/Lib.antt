@@ -1,6 +1,6 @@
 pub mod Choice
 pub mod Answers
+pub mod Asked
 pub mod Sound
 pub mod Climbing
-pub mod Queries
 pub mod Inner

@@ -3,7 +3,7 @@ use crate::answers::Refusal;
 use graph::codes::MAX_VERTICES;
 ghost use mathlib.Core.Path.{_≡_};
 ghost use Rattle.tables.specs.Tables.{six};
-ghost use Rattle.climb.specs.Queries.{tables?, vertices?, asked as askedOf};
+ghost use Rattle.climb.specs.Asked.{tables?, vertices?, asked as askedOf};
 ghost use Rattle.climb.specs.declared.asked.Verdict.the-variants.{Ready, Refused};
 
 // Whether a query may go on.

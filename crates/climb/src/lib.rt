@@ -1,11 +1,7 @@
-// Queries on any lent tables: the climb, ancestors, LCA, jump, distance and sizes. Each entry that a query uses is tested.
-pub mod ancestors;
+// What every query on lent tables begins with: the tests before it, the one test of each vertex that it stands on, and the climb.
 pub mod answers;
 pub mod asked;
 pub mod climbing;
 pub mod log;
 pub mod places;
-pub mod queries;
-pub mod reads;
-pub mod sizes;
 pub mod sound;

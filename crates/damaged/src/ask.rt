@@ -2,16 +2,16 @@
 use climb::answers::Answer;
 use climb::answers::Interval;
 use climb::answers::Refusal;
-use climb::queries::distance;
-use climb::queries::jump;
-use climb::queries::kth_ancestor;
-use climb::queries::lca;
-use climb::reads::depth;
-use climb::reads::root;
-use climb::reads::vertex_id;
-use climb::sizes::subtree_range;
-use climb::sizes::subtree_size;
 use libc::STDOUT_FILENO;
+use queries::ancestors::kth_ancestor;
+use queries::between::distance;
+use queries::between::jump;
+use queries::between::lca;
+use queries::reads::depth;
+use queries::reads::root;
+use queries::reads::vertex_id;
+use queries::sizes::subtree_range;
+use queries::sizes::subtree_size;
 
 // The places of the tables in a list of all six.
 pub const PARENT: usize = 0;

@@ -19,7 +19,7 @@ use Rattle.numbering.proofs.SameTree.{depth-length, first-parent}
 use Rattle.numbering.proofs.Subtrees.{anc-interval}
 use Rattle.numbering.proofs.Sizes.{size-count, id-order}
 use Rattle.tables.specs.Tables.{Six, kidsByRuleOne}
-use Rattle.climb.specs.Queries.{lca}
+use Rattle.queries.specs.Queries.{lca}
 use Rattle.climb.specs.declared.answers.Answer.the-variants.{Is}
 use Rattle.pathlaws.specs.Given.{Given}
 use Rattle.pathlaws.proofs.SingleEntries.{vertex-count, root-answer, depth-answer, id-answer, range-answer}

@@ -10,7 +10,7 @@ use Rattle.paths.proofs.Unique.{path-simple}
 use Rattle.graph.specs.Limits.{maxVertices}
 use Rattle.numbering.specs.Log.{log2}
 use Rattle.tables.specs.Tables.{Six}
-use Rattle.climb.specs.Queries.{lca}
+use Rattle.queries.specs.Queries.{lca}
 use Rattle.climb.specs.declared.answers.Answer.{Answer}
 use Rattle.climb.specs.declared.answers.Answer.the-variants.{Is}
 use Rattle.climb.specs.declared.answers.Refusal.the-variants.{NoRoom}

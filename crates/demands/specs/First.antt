@@ -15,7 +15,7 @@ use Rattle.graph.specs.Lent.{vertices}
 use Rattle.graph.specs.Validation.{Sized, roomOf, validation, Leaves, Validates}
 use Rattle.tables.specs.Tables.{Six}
 use Rattle.hld.specs.Build.{building, Builds, Fits as FitsSix}
-use Rattle.climb.specs.Queries.{sizeOf, tables?, vertices?, asked}
+use Rattle.climb.specs.Asked.{sizeOf, tables?, vertices?, asked}
 use Rattle.climb.specs.Answers.{answerCode, answerValues, intervalCode, intervalValues}
 use Rattle.climb.specs.declared.answers.Refusal.{Refusal}
 use Rattle.climb.specs.declared.answers.Refusal.the-variants.{BadSize, BadVertex}

@@ -10,7 +10,7 @@ use Rattle.paths.specs.Walk.{In, NoDup, Stands, Simple}
 use Rattle.graph.specs.Limits.{noParent}
 use Rattle.numbering.specs.Numbering.{Numbered, Chained}
 use Rattle.tables.specs.Tables.{Six, Long, kidsByRuleOne}
-use Rattle.climb.specs.Queries.{vertexCount, rootOf, depthOf, vertexId, subtreeRange, kthAncestor, subtreeSize, distance as distanceOf, lca as lcaOf, jump as jumpOf}
+use Rattle.queries.specs.Queries.{vertexCount, rootOf, depthOf, vertexId, subtreeRange, kthAncestor, subtreeSize, distance as distanceOf, lca as lcaOf, jump as jumpOf}
 use Rattle.climb.specs.declared.answers.Refusal.the-variants.{TooFar}
 use Rattle.climb.specs.declared.answers.Answer.the-variants.{Is, Refused}
 use Rattle.climb.specs.declared.answers.Interval.the-variants.{Between}

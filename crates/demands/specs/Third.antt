@@ -13,7 +13,7 @@ use Rattle.graph.specs.Lent.{vertices, listOf}
 use Rattle.numbering.specs.Log.{log2}
 use Rattle.tables.specs.Tables.{Six}
 use Rattle.hld.specs.Build.{Builds}
-use Rattle.climb.specs.Queries.{lca}
+use Rattle.queries.specs.Queries.{lca}
 use Rattle.climb.specs.declared.answers.Answer.the-variants.{Is}
 use Rattle.ranges.specs.Calls.{listed, rangesOf, rangeRoom, flat}
 use Rattle.ranges.specs.Inner.{ListedAs}

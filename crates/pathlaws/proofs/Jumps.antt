@@ -11,7 +11,7 @@ use Rattle.paths.proofs.Top.{top-left, top-right, top-length}
 use Rattle.tables.specs.Tables.{Six}
 use Rattle.climb.specs.Choice.{pick}
 use Rattle.climb.specs.Sound.{depthIn}
-use Rattle.climb.specs.Queries.{distanceIn, distance, ancestorIn, jumpIn, jump}
+use Rattle.queries.specs.Queries.{distanceIn, distance, ancestorIn, jumpIn, jump}
 use Rattle.climb.specs.declared.answers.Answer.{Answer}
 use Rattle.climb.specs.declared.answers.Answer.the-variants.{Is, Refused}
 use Rattle.climb.specs.declared.answers.Refusal.the-variants.{TooFar}

@@ -20,7 +20,7 @@ use Rattle.numbering.proofs.Climbs.{climb-below, climb-depth, climb-id, climb-o
 use Rattle.tables.specs.Tables.{Six}
 use Rattle.climb.specs.Choice.{pick}
 use Rattle.climb.specs.Sound.{parentIn, depthIn, headIn, idIn, placeOf}
-use Rattle.climb.specs.Queries.{entryAt, ancestorFrom, ancestorIn, kthAncestor}
+use Rattle.queries.specs.Queries.{entryAt, ancestorFrom, ancestorIn, kthAncestor}
 use Rattle.climb.specs.declared.places.Place.{Place}
 use Rattle.climb.specs.declared.answers.Answer.{Answer}
 use Rattle.climb.specs.declared.answers.Answer.the-variants.{Is, Refused}

@@ -11,7 +11,7 @@ use Rattle.paths.specs.Route.{Common}
 use Rattle.paths.proofs.Common.{common-swap, common-turn, common-exists, common-top, common-deepest, common-as-deep}
 use Rattle.tables.specs.Tables.{Six}
 use Rattle.climb.specs.Sound.{depthIn, placeOf}
-use Rattle.climb.specs.Queries.{deeper, lcaIn, lca}
+use Rattle.queries.specs.Queries.{deeper, lcaIn, lca}
 use Rattle.climb.specs.declared.places.Place.{Place}
 use Rattle.climb.specs.declared.answers.Answer.the-variants.{Is, Refused}
 use Rattle.pathlaws.specs.Given.{Given, topIn}

@@ -16,7 +16,7 @@ use Rattle.paths.proofs.Turn.{length-turn}
 use Rattle.paths.proofs.Cut.{cut-length}
 use Rattle.tables.specs.Tables.{Six}
 use Rattle.climb.specs.Sound.{parentIn, depthIn}
-use Rattle.climb.specs.Queries.{distance, jump, subtreeSize}
+use Rattle.queries.specs.Queries.{distance, jump, subtreeSize}
 use Rattle.climb.specs.declared.answers.Answer.{Answer}
 use Rattle.climb.specs.declared.answers.Answer.the-variants.{Is}
 use Rattle.pathlaws.specs.Given.{Given, pathIn, OnIn, AncIn, through?}

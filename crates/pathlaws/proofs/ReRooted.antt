@@ -13,7 +13,7 @@ use Rattle.paths.proofs.Ancestors.{anc-root}
 use Rattle.paths.proofs.Top.{top-left, top-right, top-on}
 use Rattle.numbering.proofs.Sizes.{size-count}
 use Rattle.tables.specs.Tables.{Six, NumberingOf}
-use Rattle.climb.specs.Queries.{lca, subtreeSize}
+use Rattle.queries.specs.Queries.{lca, subtreeSize}
 use Rattle.climb.specs.declared.answers.Answer.the-variants.{Is}
 use Rattle.pathlaws.specs.Given.{Given, OnIn, through?}
 use Rattle.pathlaws.proofs.Lca.{lca-answer}

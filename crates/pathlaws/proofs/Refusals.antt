@@ -11,7 +11,8 @@ use Rattle.paths.specs.Walk.{Below}
 use Rattle.paths.specs.Rooted.{climb}
 use Rattle.tables.specs.Tables.{Six}
 use Rattle.climb.specs.Sound.{depthIn, idIn}
-use Rattle.climb.specs.Queries.{asked, subtreeRange, kthAncestor, jump}
+use Rattle.climb.specs.Asked.{asked}
+use Rattle.queries.specs.Queries.{subtreeRange, kthAncestor, jump}
 use Rattle.climb.specs.declared.answers.Refusal.the-variants.{BadVertex, BadTable, TooFar}
 use Rattle.climb.specs.declared.answers.Answer.{Answer}
 use Rattle.climb.specs.declared.answers.Answer.the-variants.{Is, Refused}

@@ -11,7 +11,7 @@ use Rattle.paths.specs.Walk.{In, Stands, Simple}
 use Rattle.paths.proofs.Listed.{in-below, from-last}
 use Rattle.paths.proofs.Unique.{path-simple, path-unique}
 use Rattle.tables.specs.Tables.{Six}
-use Rattle.climb.specs.Queries.{distance, kthAncestor, jump, lca, subtreeSize}
+use Rattle.queries.specs.Queries.{distance, kthAncestor, jump, lca, subtreeSize}
 use Rattle.climb.specs.declared.answers.Answer.the-variants.{Is, Refused}
 use Rattle.climb.specs.declared.answers.Refusal.the-variants.{TooFar}
 use Rattle.pathlaws.specs.Given.{Given, OnIn}

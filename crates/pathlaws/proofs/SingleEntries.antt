@@ -12,7 +12,7 @@ use Rattle.numbering.proofs.Whole.{interval-below}
 use Rattle.tables.specs.Tables.{Six}
 use Rattle.climb.specs.Choice.{pick, both}
 use Rattle.climb.specs.Sound.{depthIn, idIn, sound?}
-use Rattle.climb.specs.Queries.{vertexCount, rootOf, depthOf, vertexId, sizeSound?, subtreeRange}
+use Rattle.queries.specs.Queries.{vertexCount, rootOf, depthOf, vertexId, sizeSound?, subtreeRange}
 use Rattle.climb.specs.declared.answers.Answer.the-variants.{Is, Refused}
 use Rattle.climb.specs.declared.answers.Refusal.the-variants.{BadTable}
 use Rattle.climb.specs.declared.answers.Interval.the-variants.{Between, Refused as NoInterval}

@@ -17,7 +17,7 @@ use Rattle.numbering.proofs.Chains.{head-below, head-dep, head-first, head-id, 
 use Rattle.tables.specs.Tables.{Six}
 use Rattle.climb.specs.Choice.{both}
 use Rattle.climb.specs.Sound.{parentIn, depthIn, headIn, idIn, hung?, sound?, placeOf, standOn}
-use Rattle.climb.specs.Queries.{sizeOf, tables?, vertices?, asked}
+use Rattle.climb.specs.Asked.{sizeOf, tables?, vertices?, asked}
 use Rattle.climb.specs.declared.places.Stood.the-variants.{On}
 use Rattle.climb.specs.declared.answers.Refusal.{Refusal}
 use Rattle.climb.specs.declared.answers.Refusal.the-variants.{BadVertex}

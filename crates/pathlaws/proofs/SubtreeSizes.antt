@@ -18,7 +18,7 @@ use Rattle.numbering.proofs.Sizes.{size-count}
 use Rattle.tables.specs.Tables.{Six}
 use Rattle.climb.specs.Choice.{pick, both}
 use Rattle.climb.specs.Sound.{depthIn, idIn, sound?}
-use Rattle.climb.specs.Queries.{reRootedSize, subtreeSize}
+use Rattle.queries.specs.Queries.{reRootedSize, subtreeSize}
 use Rattle.climb.specs.declared.answers.Answer.the-variants.{Is, Refused}
 use Rattle.climb.specs.declared.answers.Refusal.the-variants.{BadTable}
 use Rattle.pathlaws.specs.Given.{Given, pathIn, OnIn, AncIn, through?}

@@ -2,7 +2,7 @@
 use Prim.Native.Nat.{ℕ}
 use mathlib.Core.Logic.{_≢_}
 use Rattle.tables.specs.Tables.{Six}
-use Rattle.climb.specs.Queries.{vertexCount, rootOf, depthOf, vertexId, subtreeRange, distance, lca, kthAncestor, jump, subtreeSize}
+use Rattle.queries.specs.Queries.{vertexCount, rootOf, depthOf, vertexId, subtreeRange, distance, lca, kthAncestor, jump, subtreeSize}
 use Rattle.climb.specs.declared.answers.Refusal.the-variants.{BadTable}
 use Rattle.climb.specs.declared.answers.Answer.the-variants.{Refused}
 use Rattle.climb.specs.declared.answers.Interval.the-variants.{Refused as NoInterval}

@@ -8,7 +8,7 @@ use borrow.Author.Tests.{eqb-true}
 use Rattle.tables.specs.Tables.{Six}
 use Rattle.climb.specs.Choice.{pick}
 use Rattle.climb.specs.Answers.{refusalCode}
-use Rattle.climb.specs.Queries.{sizeOf}
+use Rattle.climb.specs.Asked.{sizeOf}
 use Rattle.climb.specs.declared.answers.Refusal.{Refusal}
 use Rattle.climb.specs.declared.answers.Refusal.the-variants.{BadSize, NoRoom, BadVertex, BadTable, TooFar}
 use Rattle.climb.specs.declared.answers.Answer.{Answer}

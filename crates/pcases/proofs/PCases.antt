@@ -9,7 +9,7 @@ use Rattle.graph.specs.Lent.{listOf}
 use Rattle.numbering.specs.Log.{halvings, log2}
 use Rattle.climb.specs.Sound.{sound?}
 use Rattle.climb.specs.Climbing.{climbing, climbTo}
-use Rattle.climb.specs.Queries.{ancestorFrom}
+use Rattle.queries.specs.Queries.{ancestorFrom}
 use Rattle.ranges.specs.Ranges.{ranging, pathRanges}
 use Rattle.pcases.specs.Checks.{every}
 use Rattle.pcases.specs.Cases.{Case, refused, numbered, answered, ranged, decomposed, Means, Each}

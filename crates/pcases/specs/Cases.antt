@@ -11,7 +11,8 @@ use Rattle.graph.specs.Judgement.{First}
 use Rattle.graph.specs.Lent.{vertices, listOf}
 use Rattle.graph.specs.Validation.{roomOf, validation, Validates}
 use Rattle.tables.specs.Tables.{Six, TablesOf}
-use Rattle.climb.specs.Queries.{sizeOf, subtreeSize, lca, jump}
+use Rattle.climb.specs.Asked.{sizeOf}
+use Rattle.queries.specs.Queries.{subtreeSize, lca, jump}
 use Rattle.climb.specs.declared.answers.Answer.{Answer}
 use Rattle.ranges.specs.Ranges.{found, pathRanges}
 use Rattle.ranges.specs.declared.kinds.Kind.{Kind}

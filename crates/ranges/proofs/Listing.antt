@@ -7,9 +7,8 @@ use lib.Dec.{leb}
 use lib.ListN.{length, drop}
 use borrow.Author.Tests.{le-leb, lt-leb, leb-true}
 use Rattle.graph.specs.Limits.{maxVertices}
-use Rattle.numbering.specs.Log.{log2}
 use Rattle.tables.specs.Tables.{Six}
-use Rattle.climb.specs.Queries.{sizeOf, asked}
+use Rattle.climb.specs.Asked.{sizeOf, asked}
 use Rattle.climb.specs.Climbing.{climbTo}
 use Rattle.climb.specs.Inner.{Climbs}
 use Rattle.climb.specs.declared.answers.Refusal.{Refusal}
@@ -85,12 +84,11 @@ module _ (kind : Kind) (t : Six) (u v : ℕ) where
         leb-true (sizeOf t) maxVertices
         (both-true (leb (sizeOf t) maxVertices) _ (both-true (leb 1 (sizeOf t)) _ (verdict-passed t (u ∷ v ∷ []) ready .tables) .1) .0)
 
-    pub ready-climbs : {chains : ℕ} → chains ≡ log2 (sizeOf t) → Climbs (t .parent) (t .depth) (t .head) (t .id) chains u v
-    ready-climbs e =
+    pub ready-climbs : Climbs (t .parent) (t .depth) (t .head) (t .id) u v
+    ready-climbs =
         let p = verdict-passed t (u ∷ v ∷ []) ready in
         record {
           even = lengths p .even;
-          limit = e;
           u-below = first-below p;
           v-below = first-below (others p);
         }

@@ -7,9 +7,9 @@ use lib.ListN.{length, drop, length-append}
 use Rattle.graph.specs.Limits.{maxVertices}
 use Rattle.numbering.specs.Log.{log2}
 use Rattle.tables.specs.Tables.{Six}
-use Rattle.climb.specs.Queries.{sizeOf}
+use Rattle.climb.specs.Asked.{sizeOf}
 use Rattle.climb.specs.Climbing.{leaveChain, climbStart, uMoved, vMoved}
-use Rattle.climb.specs.Inner.{Climbs, StoodOn, Left}
+use Rattle.climb.specs.Inner.{StoodOn, Left}
 use Rattle.climb.specs.declared.places.Place.{Place}
 use Rattle.climb.specs.declared.places.Climb.{Climb}
 use Rattle.climb.specs.declared.places.Stood.{Stood}
@@ -62,28 +62,26 @@ module _ (kind : Kind) (t : Six) (u v count : ℕ) (known : Known kind (sizeOf t
   stands-v a b = found-lost (sym (range-off-v kind (sizeOf t) t u v (sym (a (t .order) (t .size))) (sym (b (t .order) (t .size)))) ∙ known .same)
 
 -- The tables, the path and the list as it was lent.
-module _ (kind : Kind) (t : Six) (chains u v count : ℕ) (lent : List ℕ) where
+module _ (kind : Kind) (t : Six) (u v count : ℕ) (lent : List ℕ) where
   -- `rest` is still to be written, between what both sides have written
   pub record Writing (c : Climb) (w : List ℕ) : Type 0 where
-    pub going : Going (t .parent) (t .depth) (t .head) (t .id) chains u v c
+    pub going : Going (t .parent) (t .depth) (t .head) (t .id) (log2 (sizeOf t)) u v c
     pub u-hung : Hung (c .u)
     pub v-hung : Hung (c .v)
     pub rest : List PathRange
-    pub left : ranging (suc (chainsLeft chains c)) kind (sizeOf t) t c ≡ found rest
+    pub left : ranging (suc (chainsLeft (log2 (sizeOf t)) c)) kind (sizeOf t) t c ≡ found rest
     pub fill : c .«u_count» + length rest + c .«v_count» ≡ count
     pub long : length w ≡ length lent
     pub whole : (l : List PathRange) → pathRanges kind (sizeOf t) t u v ≡ found l → written w (c .«u_count») rest ≡ written lent 0 l
 
   module _ (known : Known kind (sizeOf t) t u v count) where
-    begin : Climbs (t .parent) (t .depth) (t .head) (t .id) chains u v → {p r : Place}
-        → StoodIn t u (On p) → StoodIn t v (On r) → Writing (climbStart p r) lent
-    begin pre {p} {r} a b =
-        let limit = pre .limit in
-        let e : suc (2 * chains - (0 + 0)) ≡ 2 * log2 (sizeOf t) + 1 = omega arith in
+    begin : {p r : Place} → StoodIn t u (On p) → StoodIn t v (On r) → Writing (climbStart p r) lent
+    begin {p} {r} a b =
+        let e : suc (2 * (log2 (sizeOf t)) - (0 + 0)) ≡ 2 * log2 (sizeOf t) + 1 = omega arith in
         let on-u = sym (a (t .order) (t .size)) in
         let on-v = sym (b (t .order) (t .size)) in
         record {
-          going = going-start (t .parent) (t .depth) (t .head) (t .id) chains u v limit a b refl;
+          going = going-start (t .parent) (t .depth) (t .head) (t .id) (log2 (sizeOf t)) u v refl a b refl;
           u-hung = stood-hung (sizeOf t) t u on-u;
           v-hung = stood-hung (sizeOf t) t v on-v;
           rest = known .ranges;
@@ -94,27 +92,26 @@ module _ (kind : Kind) (t : Six) (chains u v count : ℕ) (lent : List ℕ) wher
           whole = λ l f. let z : known .ranges ≡ l = cc in ap (written lent 0) z;
         }
 
-    pub writing-start : Climbs (t .parent) (t .depth) (t .head) (t .id) chains u v → {p r : Place} {c : Climb}
-        → StoodIn t u (On p) → StoodIn t v (On r) → c ≡ climbStart p r → Writing c lent
-    writing-start pre a b e = subst (λ (c : Climb). Writing c lent) (sym e) (begin pre a b)
+    pub writing-start : {p r : Place} {c : Climb} → StoodIn t u (On p) → StoodIn t v (On r) → c ≡ climbStart p r → Writing c lent
+    writing-start a b e = subst (λ (c : Climb). Writing c lent) (sym e) (begin a b)
 
   module _ (c : Climb) (w : List ℕ) (g : Writing c w) where
     module _ (apart : c .u .head ≡ c .v .head → ⊥) where
       module _ (h : c .v .top ≤ c .u .top) where
         pub u-never : LeftIn t (c .u) (c .«u_count») Unsound → ⊥
-        u-never l = found-lost (sym (range-u-lost kind (chainsLeft chains c) (sizeOf t) t c apart h (sym (l (t .order) (t .size)))) ∙ g .left)
+        u-never l = found-lost (sym (range-u-lost kind (chainsLeft (log2 (sizeOf t)) c) (sizeOf t) t c apart h (sym (l (t .order) (t .size)))) ∙ g .left)
 
         module _ (q : Place) (l : LeftIn t (c .u) (c .«u_count») (On q)) where
           u-left : leaveChain (sizeOf t) t (c .u) (c .«u_count») ≡ On q
           u-left = sym (l (t .order) (t .size))
 
-          u-rest : (m : List PathRange) × (ranging (chainsLeft chains c) kind (sizeOf t) t (uMoved c q) ≡ found m) × (g .rest ≡ uRange kind c ∷ m)
+          u-rest : (m : List PathRange) × (ranging (chainsLeft (log2 (sizeOf t)) c) kind (sizeOf t) t (uMoved c q) ≡ found m) × (g .rest ≡ uRange kind c ∷ m)
           u-rest =
-              front-found (uRange kind c) (ranging (chainsLeft chains c) kind (sizeOf t) t (uMoved c q))
-              (sym (range-u kind (chainsLeft chains c) (sizeOf t) t c apart h u-left) ∙ g .left)
+              front-found (uRange kind c) (ranging (chainsLeft (log2 (sizeOf t)) c) kind (sizeOf t) t (uMoved c q))
+              (sym (range-u kind (chainsLeft (log2 (sizeOf t)) c) (sizeOf t) t c apart h u-left) ∙ g .left)
 
-          pub u-few : c .«u_count» < chains
-          u-few = u-fewer (t .parent) (t .depth) (t .head) (t .id) chains u v c (g .going) apart h q l
+          pub u-few : c .«u_count» < (log2 (sizeOf t))
+          u-few = u-fewer (t .parent) (t .depth) (t .head) (t .id) (log2 (sizeOf t)) u v c (g .going) apart h q l
 
           u-room : c .«u_count» + 1 + c .«v_count» ≤ count
           u-room = let e = ap length (u-rest .2) in omega (arith, g .fill)
@@ -133,9 +130,9 @@ module _ (kind : Kind) (t : Six) (chains u v count : ℕ) (lent : List ℕ) wher
           u-next =
               let few = u-few in
               let e = ap length (u-rest .2) in
-              let k : suc (chainsLeft chains (uMoved c q)) ≡ chainsLeft chains c = omega (arith, g .going .v-few) in
+              let k : suc (chainsLeft (log2 (sizeOf t)) (uMoved c q)) ≡ chainsLeft (log2 (sizeOf t)) c = omega (arith, g .going .v-few) in
               record {
-                going = going-u (t .parent) (t .depth) (t .head) (t .id) chains u v c (g .going) apart h q l refl;
+                going = going-u (t .parent) (t .depth) (t .head) (t .id) (log2 (sizeOf t)) u v c (g .going) apart h q l refl;
                 u-hung = left-hung (sizeOf t) t (c .u) (c .«u_count») (omega (arith, g .going .limit)) u-left;
                 v-hung = g .v-hung;
                 rest = u-rest .0;
@@ -154,19 +151,19 @@ module _ (kind : Kind) (t : Six) (chains u v count : ℕ) (lent : List ℕ) wher
 
       module _ (h : c .u .top < c .v .top) where
         pub v-never : LeftIn t (c .v) (c .«v_count») Unsound → ⊥
-        v-never l = found-lost (sym (range-v-lost kind (chainsLeft chains c) (sizeOf t) t c apart h (sym (l (t .order) (t .size)))) ∙ g .left)
+        v-never l = found-lost (sym (range-v-lost kind (chainsLeft (log2 (sizeOf t)) c) (sizeOf t) t c apart h (sym (l (t .order) (t .size)))) ∙ g .left)
 
         module _ (q : Place) (l : LeftIn t (c .v) (c .«v_count») (On q)) where
           v-left : leaveChain (sizeOf t) t (c .v) (c .«v_count») ≡ On q
           v-left = sym (l (t .order) (t .size))
 
-          v-rest : (m : List PathRange) × (ranging (chainsLeft chains c) kind (sizeOf t) t (vMoved c q) ≡ found m) × (g .rest ≡ m ++ (vRange kind c ∷ []))
+          v-rest : (m : List PathRange) × (ranging (chainsLeft (log2 (sizeOf t)) c) kind (sizeOf t) t (vMoved c q) ≡ found m) × (g .rest ≡ m ++ (vRange kind c ∷ []))
           v-rest =
-              behind-found (vRange kind c) (ranging (chainsLeft chains c) kind (sizeOf t) t (vMoved c q))
-              (sym (range-v kind (chainsLeft chains c) (sizeOf t) t c apart h v-left) ∙ g .left)
+              behind-found (vRange kind c) (ranging (chainsLeft (log2 (sizeOf t)) c) kind (sizeOf t) t (vMoved c q))
+              (sym (range-v kind (chainsLeft (log2 (sizeOf t)) c) (sizeOf t) t c apart h v-left) ∙ g .left)
 
-          pub v-few : c .«v_count» < chains
-          v-few = v-fewer (t .parent) (t .depth) (t .head) (t .id) chains u v c (g .going) apart h q l
+          pub v-few : c .«v_count» < (log2 (sizeOf t))
+          v-few = v-fewer (t .parent) (t .depth) (t .head) (t .id) (log2 (sizeOf t)) u v c (g .going) apart h q l
 
           v-length : length (g .rest) ≡ length (v-rest .0) + 1
           v-length = let e = ap length (v-rest .2) in omega (arith, length-append (v-rest .0) (vRange kind c ∷ []))
@@ -188,10 +185,10 @@ module _ (kind : Kind) (t : Six) (chains u v count : ℕ) (lent : List ℕ) wher
           v-next =
               let few = v-few in
               let e = v-length in
-              let k : suc (chainsLeft chains (vMoved c q)) ≡ chainsLeft chains c = omega (arith, g .going .u-few) in
+              let k : suc (chainsLeft (log2 (sizeOf t)) (vMoved c q)) ≡ chainsLeft (log2 (sizeOf t)) c = omega (arith, g .going .u-few) in
               let s : count - 1 - c .«v_count» ≡ c .«u_count» + length (v-rest .0) = omega (arith, g .fill) in
               record {
-                going = going-v (t .parent) (t .depth) (t .head) (t .id) chains u v c (g .going) apart h q l refl;
+                going = going-v (t .parent) (t .depth) (t .head) (t .id) (log2 (sizeOf t)) u v c (g .going) apart h q l refl;
                 u-hung = g .u-hung;
                 v-hung = left-hung (sizeOf t) t (c .v) (c .«v_count») (omega (arith, g .going .limit)) v-left;
                 rest = v-rest .0;
@@ -218,7 +215,7 @@ module _ (kind : Kind) (t : Six) (chains u v count : ℕ) (lent : List ℕ) wher
     module _ (met : c .u .head ≡ c .v .head) (last : Last) (e : lastList last ≡ lastChain kind c) where
       last-rest : lastList last ≡ g .rest
       last-rest =
-          let f : found (lastChain kind c) ≡ found (g .rest) = sym (range-met kind (chainsLeft chains c) (sizeOf t) t c met) ∙ g .left in
+          let f : found (lastChain kind c) ≡ found (g .rest) = sym (range-met kind (chainsLeft (log2 (sizeOf t)) c) (sizeOf t) t c met) ∙ g .left in
           cc
 
       pub last-slot : sizeOf t ≤ maxVertices → 3 * count ≤ length lent → LastSlot w (c .«u_count») last

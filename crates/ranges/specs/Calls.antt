@@ -7,7 +7,7 @@ use Rattle.graph.specs.Limits.{maxVertices}
 use Rattle.numbering.specs.Log.{log2}
 use Rattle.tables.specs.Tables.{Six}
 use Rattle.climb.specs.Choice.{pick, both}
-use Rattle.climb.specs.Queries.{sizeOf, asked}
+use Rattle.climb.specs.Asked.{sizeOf, asked}
 use Rattle.climb.specs.Answers.{refusalCode}
 use Rattle.climb.specs.declared.answers.Refusal.{Refusal}
 use Rattle.climb.specs.declared.answers.Refusal.the-variants.{BadSize, NoRoom, BadTable}

@@ -63,8 +63,8 @@ pub record Known (kind : Kind) (n : ℕ) (t : Six) (u v count : ℕ) : Type 0 wh
   pub same : pathRanges kind n t u v ≡ found ranges
   pub counted : length ranges ≡ count
 
-pub record Writes (kind : Kind) (P D H I : List ℕ) (chains u v count : ℕ) (w : List ℕ) : Type 0 where
-  pub climbs : Climbs P D H I chains u v
+pub record Writes (kind : Kind) (P D H I : List ℕ) (u v count : ℕ) (w : List ℕ) : Type 0 where
+  pub climbs : Climbs P D H I u v
   pub small : length P ≤ maxVertices
   pub known : (o s : List ℕ) → Known kind (length P) (six P D H I o s) u v count
   pub room : 3 * count ≤ length w

@@ -8,7 +8,6 @@ use climb::answers::Refusal;
 use climb::asked::Verdict;
 use climb::asked::asked;
 use climb::climbing::climb_to_lca;
-use climb::log::floor_log2;
 use climb::places::Climbed;
 ghost use Rattle.tables.specs.Tables.{six};
 ghost use Rattle.ranges.specs.Calls.{rangesOf};
@@ -33,15 +32,14 @@ fn path_ranges(
     if let Verdict::Refused(refusal) = asked(parent, depth, head, id, order, size, &[u, v]) {
         return Listed::Refused(refusal);
     }
-    let chains = floor_log2(parent.len());
-    let Climbed::Met(climb) = climb_to_lca(parent, depth, head, id, chains, u, v) else {
+    let Climbed::Met(climb) = climb_to_lca(parent, depth, head, id, u, v) else {
         return Listed::Refused(Refusal::BadTable);
     };
     let count = climb.u_count + climb.v_count + last_count(last_chain(kind, climb));
     if ranges.len() < 3 * count {
         return Listed::Refused(Refusal::NoRoom);
     }
-    write_path(kind, parent, depth, head, id, chains, u, v, count, ranges);
+    write_path(kind, parent, depth, head, id, u, v, count, ranges);
     Listed::Count(count)
 }
 

@@ -54,13 +54,12 @@ pub(crate) fn write_path(
     depth: &[u32],
     head: &[u32],
     id: &[u32],
-    chains: usize,
     u: usize,
     v: usize,
     count: usize,
     ranges: &mut [u32],
 )
-    requires { ⌜ Writes kind (now parent) (now depth) (now head) (now id) chains u v count (now ranges) ⌝ }
+    requires { ⌜ Writes kind (now parent) (now depth) (now head) (now id) u v count (now ranges) ⌝ }
     ensures { λ r. ⌜ Wrote kind (now (parent .entry)) (now (depth .entry)) (now (head .entry)) (now (id .entry)) u v (now (ranges .entry)) (now (ranges .exit)) ⌝ }
 {
     let Stood::On(p) = stand(parent, depth, head, id, u) else {
@@ -72,16 +71,14 @@ pub(crate) fn write_path(
     let mut climb = Climb::new(p, r);
     while climb.u.head != climb.v.head {
         if climb.v.top <= climb.u.top {
-            let Stood::On(p) = leave_chain(parent, depth, head, id, chains, climb.u, climb.u_count)
-            else {
+            let Stood::On(p) = leave_chain(parent, depth, head, id, climb.u, climb.u_count) else {
                 return;
             };
             let range = chain_range(kind, climb.u.first, climb.u.id + 1, Direction::Reversed);
             write_range(ranges, climb.u_count, range);
             climb = climb.u_moved(p);
         } else {
-            let Stood::On(p) = leave_chain(parent, depth, head, id, chains, climb.v, climb.v_count)
-            else {
+            let Stood::On(p) = leave_chain(parent, depth, head, id, climb.v, climb.v_count) else {
                 return;
             };
             let range = chain_range(kind, climb.v.first, climb.v.id + 1, Direction::Forward);

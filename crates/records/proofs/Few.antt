@@ -11,7 +11,7 @@ use Rattle.graph.specs.Limits.{maxVertices}
 use Rattle.numbering.specs.Log.{log2}
 use Rattle.numbering.proofs.Logs.{log2-low}
 use Rattle.tables.specs.Tables.{Six}
-use Rattle.climb.specs.Queries.{sizeOf, asked}
+use Rattle.climb.specs.Asked.{sizeOf, asked}
 use Rattle.climb.specs.Climbing.{climbTo}
 use Rattle.climb.specs.declared.asked.Verdict.{Verdict}
 use Rattle.climb.specs.declared.asked.Verdict.the-variants.{Ready, Refused as Stopped}

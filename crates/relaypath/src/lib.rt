@@ -1,9 +1,9 @@
 // The library that C and Rust link. Each call stands here under its C name and is one call of the crate that proves it; include/relaypath.h
 // declares them for C. A slice is a pointer and a length there.
+pub mod asked;
 pub mod centroids;
 pub mod handed;
 pub mod listing;
-pub mod queries;
 
 ghost use Rattle.graph.specs.Validation.{Validates};
 ghost use Rattle.tables.specs.Tables.{six};

@@ -12,7 +12,7 @@ use Rattle.climb.specs.declared.answers.Answer.{Answer}
 use Rattle.climb.specs.declared.answers.Answer.the-variants.{Is, Refused}
 use Rattle.climb.specs.Answers.{refusalCode}
 use Rattle.climb.specs.Choice.{pick}
-use Rattle.climb.specs.Queries.{distance, lca, kthAncestor, jump, subtreeSize}
+use Rattle.queries.specs.Queries.{distance, lca, kthAncestor, jump, subtreeSize}
 use Rattle.ranges.specs.Calls.{Answered, refused, listed, rangesOf}
 use Rattle.ranges.specs.declared.kinds.Kind.{Kind}
 use Rattle.ranges.specs.declared.kinds.Kind.the-variants.{Vertices, Edges, Both}

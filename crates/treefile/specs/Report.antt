@@ -7,7 +7,7 @@ use lib.ListN.{length}
 use Rattle.tables.specs.Tables.{Six}
 use Rattle.climb.specs.Choice.{pick}
 use Rattle.climb.specs.Answers.{refusalCode, answerCode, answerValues}
-use Rattle.climb.specs.Queries.{distance, lca, kthAncestor, jump, subtreeSize}
+use Rattle.queries.specs.Queries.{distance, lca, kthAncestor, jump, subtreeSize}
 use Rattle.climb.specs.declared.answers.Answer.{Answer}
 use Rattle.ranges.specs.Calls.{Answered, refused, listed, rangesOf}
 use Rattle.ranges.specs.declared.kinds.Direction.{Direction}

@@ -16,7 +16,7 @@ use Rattle.numbering.specs.Log.{log2}
 use Rattle.numbering.proofs.Logs.{log2-low, log2-small}
 use Rattle.tables.specs.Tables.{Six, six, Long, NumberingOf}
 use Rattle.hld.specs.Build.{building, Builds}
-use Rattle.climb.specs.Queries.{sizeOf}
+use Rattle.climb.specs.Asked.{sizeOf}
 use Rattle.climb.specs.declared.answers.Refusal.the-variants.{BadVertex}
 use Rattle.pathlaws.specs.Given.{Given}
 use Rattle.pathlaws.proofs.Standing.{answered, asked-or-refused}

@@ -8,7 +8,7 @@ use lib.ListN.{length}
 use borrow.Author.Tests.{eq-eqb, ne-eqb}
 use Rattle.sums.proofs.Sums.{equal-or-not}
 use Rattle.tables.specs.Tables.{Six}
-use Rattle.climb.specs.Queries.{distance, lca, kthAncestor, jump, subtreeSize}
+use Rattle.queries.specs.Queries.{distance, lca, kthAncestor, jump, subtreeSize}
 use Rattle.ranges.specs.Calls.{Answered, refused, listed, rangesOf}
 use Rattle.ranges.specs.Inner.{ListedAs}
 use Rattle.ranges.specs.declared.kinds.Kind.{Kind}

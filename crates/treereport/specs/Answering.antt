@@ -4,7 +4,7 @@ use lib.Dec.{eqb}
 use mathlib.Core.List.{List}
 use Rattle.tables.specs.Tables.{Six}
 use Rattle.climb.specs.Choice.{pick}
-use Rattle.climb.specs.Queries.{distance, lca, kthAncestor, jump, subtreeSize}
+use Rattle.queries.specs.Queries.{distance, lca, kthAncestor, jump, subtreeSize}
 use Rattle.climb.specs.declared.answers.Answer.{Answer}
 use Rattle.ranges.specs.Calls.{rangesOf}
 use Rattle.ranges.specs.declared.kinds.Kind.{Kind}

@@ -1,10 +1,10 @@
 // The answer to one query, as text.
 use climb::answers::Answer;
-use climb::queries::distance;
-use climb::queries::jump;
-use climb::queries::kth_ancestor;
-use climb::queries::lca;
-use climb::sizes::subtree_size;
+use queries::ancestors::kth_ancestor;
+use queries::between::distance;
+use queries::between::jump;
+use queries::between::lca;
+use queries::sizes::subtree_size;
 use ranges::kinds::Listed;
 use ranges::lists::edge_path_ranges;
 use ranges::lists::vertex_edge_path_ranges;

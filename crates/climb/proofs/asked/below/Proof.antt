@@ -6,7 +6,7 @@ use Prim.Native.Nat.{_≤_, _-_}
 use native.Mathlib.Omega.{arith}
 use mathlib.Core.Path.{_≡_, refl, _∙_}
 use lib.ListN.{length, drop}
-use Rattle.climb.specs.Queries.{vertices?}
+use Rattle.climb.specs.Asked.{vertices?}
 use Rattle.climb.proofs.Passed.{vertices-next, vertices-stop, vertices-end}
 
 abbrev Inv-loop : tie.InvT-loop

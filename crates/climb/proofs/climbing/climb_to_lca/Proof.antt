@@ -32,7 +32,7 @@ returns-2 : tie.Need-returns-2
 returns-2 c = climbed-lost _ _ _ _ _ _ (λ o s. climb-off-v _ _ _ _ (sym (c .before .before .before .before .before .before .stand .ensures o s) ∙ c .before .before .before .before .p .given .1) (sym (c .before .before .stand2 .ensures o s) ∙ c .enum-told2 .given .1))
 
 climb-from-requires : tie.Need-climb-from-requires
-climb-from-requires c κs = climbs-from _ _ _ _ _ _ (c .before .before .before .before .before .before .before .stand .ensures) (c .before .before .before .before .before .p .given .1) (c .before .before .before .stand2 .ensures) (c .before .q .given .1) (c .before .before .before .before .before .before .before .before .before .before .before .before .pre .even) (c .before .before .before .before .before .before .before .before .before .before .before .before .pre .limit)
+climb-from-requires c κs = climbs-from _ _ _ _ _ _ (c .before .before .before .before .before .before .before .stand .ensures) (c .before .before .before .before .before .p .given .1) (c .before .before .before .stand2 .ensures) (c .before .q .given .1) (c .before .before .before .before .before .before .before .before .before .before .before .before .pre .even)
 
 returns-3 : tie.Need-returns-3
 returns-3 c = climbed-there _ _ _ _ _ _ (c .before .before .before .before .before .before .before .before .stand .ensures) (c .before .before .before .before .before .before .p .given .1) (c .before .before .before .before .stand2 .ensures) (c .before .before .q .given .1) (c .climb-from .ensures)

@@ -1,0 +1,5 @@
+pub mod Rising
+pub mod Reading
+pub mod Answering
+pub mod Jumping
+pub mod Counting

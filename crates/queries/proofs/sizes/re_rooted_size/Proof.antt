@@ -1,0 +1,100 @@
+-- `sizes::re_rooted_size` meets its contract: each return says how far the tests passed.
+use borrow.Author.Needs.{needs}
+use Rattle.queries.proofs.sizes.re_rooted_size.Statement.{statement}
+use Rattle.queries.proofs.sizes.re_rooted_size.Tie as tie
+use borrow.Author.Tests.{not-true, not-false}
+use native.Mathlib.Omega.{arith}
+use mathlib.Core.Path.{_≡_, sym, ap, _∙_}
+use mathlib.Core.List.{[]}
+use mir.Facts.{fits-widen}
+use lib.ListN.{length}
+use Rattle.tables.specs.Tables.{Six, six}
+use Rattle.queries.specs.Queries.{withoutChild}
+use Rattle.climb.proofs.Soundness.{stood-placed}
+use Rattle.queries.proofs.Rising.{rise-from, found-below}
+use Rattle.queries.proofs.Counting.{size-unsized, size-before, size-after, size-shallow, size-inside, left-refused}
+use Rattle.climb.specs.Sound.{standOn}
+use Rattle.climb.specs.declared.places.Stood.the-variants.{On}
+
+abbrev lent : tie.Start → Six
+lent b = six (b .args .parent .now) (b .args .depth .now) (b .args .head .now) (b .args .id .now) (b .args .order .now) (b .args .size .now)
+
+-- both places are those of sound vertices
+on-a : (b : tie.Start) → standOn (length (b .args .parent .now)) (lent b) (b .args .a .vertex) ≡ On (b .args .a)
+on-a b = sym (b .pre .on-a (b .args .order .now) (b .args .size .now))
+
+on-b : (b : tie.Start) → standOn (length (b .args .parent .now)) (lent b) (b .args .b .vertex) ≡ On (b .args .b)
+on-b b = sym (b .pre .on-b (b .args .order .now) (b .args .size .now))
+
+mul-count : tie.Need-mul-count
+mul-count c = search needs
+
+shared-slice-read-count : tie.Need-shared-slice-read-count
+shared-slice-read-count c = search needs
+
+cast-count : tie.Need-cast-count
+cast-count c = fits-widen tt (c .shared-slice-known7 .given _)
+
+size-sound-requires : tie.Need-size-sound-requires
+size-sound-requires c κs = omega (arith, stood-placed _ _ _ (sym (c .before .before .before .before .before .before .before .pre .on-b [] [])) .id-below, c .before .before .before .before .before .before .before .good .0 .1, (c .shared-slice-known7 .given (c .before .before .before .before .before .before .before .args .b .vertex)))
+
+returns : tie.Need-returns
+returns c = size-unsized _ (lent (c .before .before .before .before .before .before .before .before .before)) (on-a (c .before .before .before .before .before .before .before .before .before)) (on-b (c .before .before .before .before .before .before .before .before .before)) (sym (c .before .size-sound .ensures) ∙ not-true _ (c .if1 .taken))
+
+returns-2 : tie.Need-returns-2
+returns-2 c = size-before _ (lent (c .before .before .before .before .before .before .before .before .before .before .before .before)) (on-a (c .before .before .before .before .before .before .before .before .before .before .before .before)) (on-b (c .before .before .before .before .before .before .before .before .before .before .before .before)) (sym (c .before .before .before .before .size-sound .ensures) ∙ not-false _ (c .before .before .before .if1 .left)) (c .if2 .taken)
+
+add-if3 : tie.Need-add-if3
+add-if3 c = omega (arith, stood-placed _ _ _ (sym (c .before .before .before .before .before .before .before .before .before .before .before .before .before .pre .on-b [] [])) .id-below, c .before .before .before .before .before .before .before .before .before .before .before .before .before .good .0 .1, (c .before .before .before .before .before .before .shared-slice-known7 .given (c .before .before .before .before .before .before .before .before .before .before .before .before .before .args .b .vertex)))
+
+returns-3 : tie.Need-returns-3
+returns-3 c = size-after _ (lent (c .before .before .before .before .before .before .before .before .before .before .before .before .before .before .before)) (on-a (c .before .before .before .before .before .before .before .before .before .before .before .before .before .before .before)) (on-b (c .before .before .before .before .before .before .before .before .before .before .before .before .before .before .before)) (sym (c .before .before .before .before .before .before .before .size-sound .ensures) ∙ not-false _ (c .before .before .before .before .before .before .if1 .left)) (c .before .before .before .if2 .left) (c .if3 .taken)
+
+returns-4 : tie.Need-returns-4
+returns-4 c = size-shallow _ (lent (c .before .before .before .before .before .before .before .before .before .before .before .before .before .before .before .before .before .before)) (on-a (c .before .before .before .before .before .before .before .before .before .before .before .before .before .before .before .before .before .before)) (on-b (c .before .before .before .before .before .before .before .before .before .before .before .before .before .before .before .before .before .before)) (sym (c .before .before .before .before .before .before .before .before .before .before .size-sound .ensures) ∙ not-false _ (c .before .before .before .before .before .before .before .before .before .if1 .left)) (c .before .before .before .before .before .before .if2 .left) (c .before .before .before .if3 .left) (c .if4 .taken)
+
+sub-steps : tie.Need-sub-steps
+sub-steps c = search needs
+
+sub-steps-2 : tie.Need-sub-steps-2
+sub-steps-2 c = search needs
+
+ancestor-from-requires : tie.Need-ancestor-from-requires
+ancestor-from-requires c κs = record { even = c .before .before .before .before .before .before .before .before .before .before .before .before .before .before .before .before .before .before .before .before .pre .even; order = c .before .before .before .before .before .before .before .before .before .before .before .before .before .before .before .before .before .before .before .before .pre .order; place = stood-placed _ _ _ (sym (c .before .before .before .before .before .before .before .before .before .before .before .before .before .before .before .before .before .before .before .before .pre .on-a [] [])) }
+
+enum-known-found : tie.Need-enum-known-found
+enum-known-found c = search needs
+
+enum-told : tie.Need-enum-told
+enum-told c = search needs
+
+returns-5 : tie.Need-returns-5
+returns-5 c = left-refused _ (lent (c .before .before .before .before .before .before .before .before .before .before .before .before .before .before .before .before .before .before .before .before .before .before .before)) (c .enum-told .given .1) ∙ (ap (withoutChild _ (lent (c .before .before .before .before .before .before .before .before .before .before .before .before .before .before .before .before .before .before .before .before .before .before .before))) (c .before .before .ancestor-from .ensures _ ∙ rise-from _ (lent (c .before .before .before .before .before .before .before .before .before .before .before .before .before .before .before .before .before .before .before .before .before .before .before)) _ _ (on-a (c .before .before .before .before .before .before .before .before .before .before .before .before .before .before .before .before .before .before .before .before .before .before .before))) ∙ size-inside _ (lent (c .before .before .before .before .before .before .before .before .before .before .before .before .before .before .before .before .before .before .before .before .before .before .before)) (on-a (c .before .before .before .before .before .before .before .before .before .before .before .before .before .before .before .before .before .before .before .before .before .before .before)) (on-b (c .before .before .before .before .before .before .before .before .before .before .before .before .before .before .before .before .before .before .before .before .before .before .before)) (sym (c .before .before .before .before .before .before .before .before .before .before .before .before .before .before .before .size-sound .ensures) ∙ not-false _ (c .before .before .before .before .before .before .before .before .before .before .before .before .before .before .if1 .left)) (c .before .before .before .before .before .before .before .before .before .before .before .if2 .left) (c .before .before .before .before .before .before .before .before .if3 .left) (c .before .before .before .before .before .if4 .left))
+
+without-child-requires : tie.Need-without-child-requires
+without-child-requires c κs = record { id = c .before .before .before .before .before .before .before .before .before .before .before .before .before .before .before .before .before .before .before .before .before .before .before .before .pre .even .id; size = c .before .before .before .before .before .before .before .before .before .before .before .before .before .before .before .before .before .before .before .before .before .before .before .before .pre .size; vertex = found-below _ _ _ _ _ _ (sym (c .before .before .before .ancestor-from .ensures []) ∙ c .before .found .given .1) }
+
+returns-6 : tie.Need-returns-6
+returns-6 c = c .without-child .ensures (c .before .before .before .before .before .before .before .before .before .before .before .before .before .before .before .before .before .before .before .before .before .before .before .before .before .args .parent .now) (c .before .before .before .before .before .before .before .before .before .before .before .before .before .before .before .before .before .before .before .before .before .before .before .before .before .args .depth .now) (c .before .before .before .before .before .before .before .before .before .before .before .before .before .before .before .before .before .before .before .before .before .before .before .before .before .args .head .now) (c .before .before .before .before .before .before .before .before .before .before .before .before .before .before .before .before .before .before .before .before .before .before .before .before .before .args .order .now) ∙ (ap (withoutChild _ (lent (c .before .before .before .before .before .before .before .before .before .before .before .before .before .before .before .before .before .before .before .before .before .before .before .before .before))) (sym (c .before .before .found .given .1) ∙ (c .before .before .before .before .ancestor-from .ensures _ ∙ rise-from _ (lent (c .before .before .before .before .before .before .before .before .before .before .before .before .before .before .before .before .before .before .before .before .before .before .before .before .before)) _ _ (on-a (c .before .before .before .before .before .before .before .before .before .before .before .before .before .before .before .before .before .before .before .before .before .before .before .before .before)))) ∙ size-inside _ (lent (c .before .before .before .before .before .before .before .before .before .before .before .before .before .before .before .before .before .before .before .before .before .before .before .before .before)) (on-a (c .before .before .before .before .before .before .before .before .before .before .before .before .before .before .before .before .before .before .before .before .before .before .before .before .before)) (on-b (c .before .before .before .before .before .before .before .before .before .before .before .before .before .before .before .before .before .before .before .before .before .before .before .before .before)) (sym (c .before .before .before .before .before .before .before .before .before .before .before .before .before .before .before .before .before .size-sound .ensures) ∙ not-false _ (c .before .before .before .before .before .before .before .before .before .before .before .before .before .before .before .before .if1 .left)) (c .before .before .before .before .before .before .before .before .before .before .before .before .before .if2 .left) (c .before .before .before .before .before .before .before .before .before .before .if3 .left) (c .before .before .before .before .before .before .before .if4 .left))
+
+pub re-rooted-size-spec : {M : Type 1} → statement M
+re-rooted-size-spec =
+    tie.close
+    (tie.spec
+    mul-count
+    shared-slice-read-count
+    cast-count
+    size-sound-requires
+    returns
+    returns-2
+    add-if3
+    returns-3
+    returns-4
+    sub-steps
+    sub-steps-2
+    ancestor-from-requires
+    enum-known-found
+    enum-told
+    returns-5
+    without-child-requires
+    returns-6)

@@ -1,0 +1,96 @@
+-- `sizes::subtree_size` meets its contract: it stands on r and on v.
+use borrow.Author.Needs.{needs}
+use Rattle.queries.proofs.sizes.subtree_size.Statement.{statement}
+use Rattle.queries.proofs.sizes.subtree_size.Tie as tie
+use mathlib.Core.Path.{sym, _∙_}
+use mathlib.Core.List.{[], _∷_}
+use Rattle.tables.specs.Tables.{Six, six}
+use Rattle.climb.specs.declared.answers.Answer.the-variants.{Refused}
+use Rattle.climb.proofs.Passed.{Passed, verdict-passed, verdict-refused, answered, lengths, first-below, others}
+use Rattle.climb.proofs.Soundness.{stood-vertex}
+use Rattle.queries.proofs.Counting.{size-off-r, size-off-v, size-whole, size-other}
+use native.Mathlib.Omega.{arith}
+use Rattle.climb.proofs.Soundness.{stood-again}
+
+abbrev lent : tie.Start → Six
+lent b = six (b .args .parent .now) (b .args .depth .now) (b .args .head .now) (b .args .id .now) (b .args .order .now) (b .args .size .now)
+
+-- the tests before the query were passed
+passed : (c : tie.After-enum-told) → Passed (lent (c .before .before .before .before .before .before .before .before .before .before)) (c .before .before .before .before .before .before .before .before .before .before .args .r ∷ c .before .before .before .before .before .before .before .before .before .before .args .v ∷ [])
+passed c = verdict-passed (lent (c .before .before .before .before .before .before .before .before .before .before)) (c .before .before .before .before .before .before .before .before .before .before .args .r ∷ c .before .before .before .before .before .before .before .before .before .before .args .v ∷ []) (sym (c .before .before .asked .ensures) ∙ c .enum-told .given .1)
+
+slice-aggregate-asked : tie.Need-slice-aggregate-asked
+slice-aggregate-asked c = search needs
+
+asked-requires : tie.Need-asked-requires
+asked-requires c κs = search needs
+
+enum-known-refusal : tie.Need-enum-known-refusal
+enum-known-refusal c = search needs
+
+returns : tie.Need-returns
+returns c = verdict-refused (lent (c .before .before .before .before .before .before .before .before .before .before .before)) (c .before .before .before .before .before .before .before .before .before .before .before .args .r ∷ c .before .before .before .before .before .before .before .before .before .before .before .args .v ∷ []) Refused _ (sym (c .before .before .before .asked .ensures) ∙ c .before .refusal .given .1)
+
+enum-told : tie.Need-enum-told
+enum-told c = search needs
+
+stand-requires : tie.Need-stand-requires
+stand-requires c κs = record { even = lengths (passed c) .even; vertex = first-below (passed c) }
+
+enum-known-a : tie.Need-enum-known-a
+enum-known-a c = search needs
+
+enum-told-2 : tie.Need-enum-told-2
+enum-told-2 c = search needs
+
+returns-2 : tie.Need-returns-2
+returns-2 c = answered (passed (c .before .before .before)) Refused (size-off-r _ _ _ _ (sym (c .before .before .stand .ensures _ _) ∙ c .enum-told2 .given .1))
+
+stand-requires-2 : tie.Need-stand-requires-2
+stand-requires-2 c κs = record { even = lengths (passed (c .before .before .before .before)) .even; vertex = first-below (others (passed (c .before .before .before .before))) }
+
+enum-known-b : tie.Need-enum-known-b
+enum-known-b c = search needs
+
+enum-told-3 : tie.Need-enum-told-3
+enum-told-3 c = search needs
+
+returns-3 : tie.Need-returns-3
+returns-3 c = answered (passed (c .before .before .before .before .before .before .before)) Refused (size-off-v _ _ _ _ (sym (c .before .before .before .before .before .before .stand .ensures _ _) ∙ c .before .before .before .before .a .given .1) (sym (c .before .before .stand2 .ensures _ _) ∙ c .enum-told3 .given .1))
+
+returns-4 : tie.Need-returns-4
+returns-4 c = answered (passed (c .before .before .before .before .before .before .before .before .before)) Refused (size-whole _ _ _ _ (sym (c .before .before .before .before .before .before .before .before .stand .ensures _ _) ∙ c .before .before .before .before .before .before .a .given .1) (sym (c .before .before .before .before .stand2 .ensures _ _) ∙ c .before .before .b .given .1) (c .if1 .taken))
+
+re-rooted-size-requires : tie.Need-re-rooted-size-requires
+re-rooted-size-requires c κs = record {
+  even = lengths (passed (c .before .before .before .before .before .before .before .before .before)) .even;
+  order = lengths (passed (c .before .before .before .before .before .before .before .before .before)) .order;
+  size = lengths (passed (c .before .before .before .before .before .before .before .before .before)) .size;
+  below = omega (arith, first-below (others (passed (c .before .before .before .before .before .before .before .before .before))), stood-vertex _ _ _ (sym (c .before .before .before .before .stand2 .ensures [] []) ∙ c .before .before .b .given .1));
+  on-a = λ o s. stood-again _ _ _ (sym (c .before .before .before .before .before .before .before .before .stand .ensures o s) ∙ c .before .before .before .before .before .before .a .given .1);
+  on-b = λ o s. stood-again _ _ _ (sym (c .before .before .before .before .stand2 .ensures o s) ∙ c .before .before .b .given .1);
+}
+
+returns-5 : tie.Need-returns-5
+returns-5 c = answered (passed (c .before .before .before .before .before .before .before .before .before .before)) Refused (c .re-rooted-size .ensures ∙ size-other _ _ _ _ (sym (c .before .before .before .before .before .before .before .before .before .stand .ensures _ _) ∙ c .before .before .before .before .before .before .before .a .given .1) (sym (c .before .before .before .before .before .stand2 .ensures _ _) ∙ c .before .before .before .b .given .1) (c .before .if1 .left))
+
+pub subtree-size-spec : {M : Type 1} → statement M
+subtree-size-spec =
+    tie.close
+    (tie.spec
+    slice-aggregate-asked
+    asked-requires
+    enum-known-refusal
+    returns
+    enum-told
+    stand-requires
+    enum-known-a
+    enum-told-2
+    returns-2
+    stand-requires-2
+    enum-known-b
+    enum-told-3
+    returns-3
+    returns-4
+    re-rooted-size-requires
+    returns-5)

@@ -1,0 +1,191 @@
+// Queries that climb: the distance, the LCA and jumps. Each vertex that is asked about is stood on once, and its place is handed on.
+use crate::ancestors::ancestor_from;
+use climb::answers::Answer;
+use climb::answers::Refusal;
+use climb::asked::Verdict;
+use climb::asked::asked;
+use climb::climbing::climb_from;
+use climb::places::Climbed;
+use climb::places::Place;
+use climb::places::Stood;
+use climb::sound::stand;
+ghost use mathlib.Core.Path.{_≡_};
+ghost use Rattle.tables.specs.Tables.{six};
+ghost use Rattle.climb.specs.Inner.{ClimbsFrom};
+ghost use Rattle.queries.specs.Inner.{EndedAt, deeperCandidate as deeperOf, Jumps, Jumped};
+ghost use Rattle.queries.specs.Queries.{distance as distanceOf, lca as lcaOf, jump as jumpOf};
+
+// What the choice of the LCA needs of the place where a climb ended.
+pub struct Candidate {
+    pub vertex: usize,
+    pub depth: usize,
+}
+
+pub enum Ended {
+    At(Candidate),
+    Nowhere,
+}
+
+// The number of edges between u and v.
+pub fn distance(
+    parent: &[u32],
+    depth: &[u32],
+    head: &[u32],
+    id: &[u32],
+    order: &[u32],
+    size: &[u32],
+    u: usize,
+    v: usize,
+) -> Answer
+    ensures { λ answer. ⌜ answer ≡ distanceOf (six (now (parent .entry)) (now (depth .entry)) (now (head .entry)) (now (id .entry)) (now (order .entry)) (now (size .entry))) u v ⌝ }
+{
+    if let Verdict::Refused(refusal) = asked(parent, depth, head, id, order, size, &[u, v]) {
+        return Answer::Refused(refusal);
+    }
+    let Stood::On(p) = stand(parent, depth, head, id, u) else {
+        return Answer::Refused(Refusal::BadTable);
+    };
+    let Stood::On(q) = stand(parent, depth, head, id, v) else {
+        return Answer::Refused(Refusal::BadTable);
+    };
+    let Climbed::Met(c) = climb_from(parent, depth, head, id, p, q) else {
+        return Answer::Refused(Refusal::BadTable);
+    };
+    let w = c.ancestor();
+    Answer::Is(p.depth + q.depth - 2 * w.depth)
+}
+
+// The place where p and q meet, as a candidate: only its vertex and depth are handed on.
+fn meeting(parent: &[u32], depth: &[u32], head: &[u32], id: &[u32], p: Place, q: Place) -> Ended
+    requires { ⌜ ClimbsFrom (now parent) (now depth) (now head) (now id) p q ⌝ }
+    ensures { λ r. ⌜ EndedAt (now (parent .entry)) (now (depth .entry)) (now (head .entry)) (now (id .entry)) (p .vertex) (q .vertex) r ⌝ }
+{
+    let Climbed::Met(c) = climb_from(parent, depth, head, id, p, q) else {
+        return Ended::Nowhere;
+    };
+    let w = c.ancestor();
+    Ended::At(Candidate {
+        vertex: w.vertex,
+        depth: w.depth,
+    })
+}
+
+// The deeper of two candidates, the second at equal depth.
+fn deeper(a: Candidate, b: Candidate) -> Candidate
+    ensures { λ r. ⌜ r ≡ deeperOf a b ⌝ }
+{
+    if a.depth <= b.depth { b } else { a }
+}
+
+// The lowest common ancestor of u and v as if r were the root: the last deepest of the three under the build root.
+pub fn lca(
+    parent: &[u32],
+    depth: &[u32],
+    head: &[u32],
+    id: &[u32],
+    order: &[u32],
+    size: &[u32],
+    r: usize,
+    u: usize,
+    v: usize,
+) -> Answer
+    ensures { λ answer. ⌜ answer ≡ lcaOf (six (now (parent .entry)) (now (depth .entry)) (now (head .entry)) (now (id .entry)) (now (order .entry)) (now (size .entry))) r u v ⌝ }
+{
+    if let Verdict::Refused(refusal) = asked(parent, depth, head, id, order, size, &[r, u, v]) {
+        return Answer::Refused(refusal);
+    }
+    let Stood::On(s) = stand(parent, depth, head, id, r) else {
+        return Answer::Refused(Refusal::BadTable);
+    };
+    let Stood::On(p) = stand(parent, depth, head, id, u) else {
+        return Answer::Refused(Refusal::BadTable);
+    };
+    let Stood::On(q) = stand(parent, depth, head, id, v) else {
+        return Answer::Refused(Refusal::BadTable);
+    };
+    let Ended::At(a) = meeting(parent, depth, head, id, p, q) else {
+        return Answer::Refused(Refusal::BadTable);
+    };
+    let Ended::At(b) = meeting(parent, depth, head, id, s, p) else {
+        return Answer::Refused(Refusal::BadTable);
+    };
+    let Ended::At(c) = meeting(parent, depth, head, id, s, q) else {
+        return Answer::Refused(Refusal::BadTable);
+    };
+    let candidates = [a, b, c];
+    let w = deeper(deeper(candidates[0], candidates[1]), candidates[2]);
+    Answer::Is(w.vertex)
+}
+
+// The vertex k steps from p on the way to q: up to the ancestor, then down, counted from q. An answer is taken apart and made again, which
+// is quicker than to move it whole.
+fn jump_from(
+    parent: &[u32],
+    depth: &[u32],
+    head: &[u32],
+    id: &[u32],
+    order: &[u32],
+    p: Place,
+    q: Place,
+    k: usize,
+) -> Answer
+    requires { ⌜ Jumps (now parent) (now depth) (now head) (now id) (now order) p q ⌝ }
+    ensures { λ r. ⌜ Jumped (now (parent .entry)) (now (depth .entry)) (now (head .entry)) (now (id .entry)) (now (order .entry)) p q k r ⌝ }
+{
+    let Climbed::Met(c) = climb_from(parent, depth, head, id, p, q) else {
+        return Answer::Refused(Refusal::BadTable);
+    };
+    let w = c.ancestor();
+    let up = p.depth - w.depth;
+    let down = q.depth - w.depth;
+    if k <= up {
+        let found = ancestor_from(parent, depth, head, id, order, parent.len(), p, k);
+        let Answer::Is(x) = found else {
+            return found;
+        };
+        return Answer::Is(x);
+    }
+    if up + down < k {
+        return Answer::Refused(Refusal::TooFar);
+    }
+    let found = ancestor_from(
+        parent,
+        depth,
+        head,
+        id,
+        order,
+        parent.len(),
+        q,
+        up + down - k,
+    );
+    let Answer::Is(x) = found else {
+        return found;
+    };
+    Answer::Is(x)
+}
+
+// The vertex k steps from u on the way to v.
+pub fn jump(
+    parent: &[u32],
+    depth: &[u32],
+    head: &[u32],
+    id: &[u32],
+    order: &[u32],
+    size: &[u32],
+    u: usize,
+    v: usize,
+    k: usize,
+) -> Answer
+    ensures { λ answer. ⌜ answer ≡ jumpOf (six (now (parent .entry)) (now (depth .entry)) (now (head .entry)) (now (id .entry)) (now (order .entry)) (now (size .entry))) u v k ⌝ }
+{
+    if let Verdict::Refused(refusal) = asked(parent, depth, head, id, order, size, &[u, v]) {
+        return Answer::Refused(refusal);
+    }
+    let Stood::On(p) = stand(parent, depth, head, id, u) else {
+        return Answer::Refused(Refusal::BadTable);
+    };
+    let Stood::On(q) = stand(parent, depth, head, id, v) else {
+        return Answer::Refused(Refusal::BadTable);
+    };
+    jump_from(parent, depth, head, id, order, p, q, k)
+}

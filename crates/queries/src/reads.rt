@@ -1,0 +1,93 @@
+// Queries that read one vertex.
+use climb::answers::Answer;
+use climb::answers::Refusal;
+use climb::asked::Verdict;
+use climb::asked::asked;
+use climb::places::Stood;
+use climb::sound::stand;
+ghost use mathlib.Core.Path.{_≡_};
+ghost use Rattle.tables.specs.Tables.{six};
+ghost use Rattle.queries.specs.Queries.{vertexCount, rootOf, depthOf, vertexId};
+
+// The number of vertices.
+pub fn vertex_count(
+    parent: &[u32],
+    depth: &[u32],
+    head: &[u32],
+    id: &[u32],
+    order: &[u32],
+    size: &[u32],
+) -> Answer
+    ensures { λ answer. ⌜ answer ≡ vertexCount (six (now (parent .entry)) (now (depth .entry)) (now (head .entry)) (now (id .entry)) (now (order .entry)) (now (size .entry))) ⌝ }
+{
+    if let Verdict::Refused(refusal) = asked(parent, depth, head, id, order, size, &[]) {
+        return Answer::Refused(refusal);
+    }
+    Answer::Is(parent.len())
+}
+
+// The root: the first vertex of the order.
+pub fn root(
+    parent: &[u32],
+    depth: &[u32],
+    head: &[u32],
+    id: &[u32],
+    order: &[u32],
+    size: &[u32],
+) -> Answer
+    ensures { λ answer. ⌜ answer ≡ rootOf (six (now (parent .entry)) (now (depth .entry)) (now (head .entry)) (now (id .entry)) (now (order .entry)) (now (size .entry))) ⌝ }
+{
+    if let Verdict::Refused(refusal) = asked(parent, depth, head, id, order, size, &[]) {
+        return Answer::Refused(refusal);
+    }
+    let r = order[0] as usize;
+    if parent.len() <= r {
+        return Answer::Refused(Refusal::BadTable);
+    }
+    let Stood::On(_) = stand(parent, depth, head, id, r) else {
+        return Answer::Refused(Refusal::BadTable);
+    };
+    Answer::Is(r)
+}
+
+// The depth of v below the root.
+pub fn depth(
+    parent: &[u32],
+    depth: &[u32],
+    head: &[u32],
+    id: &[u32],
+    order: &[u32],
+    size: &[u32],
+    v: usize,
+) -> Answer
+    ensures { λ answer. ⌜ answer ≡ depthOf (six (now (parent .entry)) (now (depth .entry)) (now (head .entry)) (now (id .entry)) (now (order .entry)) (now (size .entry))) v ⌝ }
+{
+    if let Verdict::Refused(refusal) = asked(parent, depth, head, id, order, size, &[v]) {
+        return Answer::Refused(refusal);
+    }
+    let Stood::On(p) = stand(parent, depth, head, id, v) else {
+        return Answer::Refused(Refusal::BadTable);
+    };
+    Answer::Is(p.depth)
+}
+
+// The number of v.
+pub fn vertex_id(
+    parent: &[u32],
+    depth: &[u32],
+    head: &[u32],
+    id: &[u32],
+    order: &[u32],
+    size: &[u32],
+    v: usize,
+) -> Answer
+    ensures { λ answer. ⌜ answer ≡ vertexId (six (now (parent .entry)) (now (depth .entry)) (now (head .entry)) (now (id .entry)) (now (order .entry)) (now (size .entry))) v ⌝ }
+{
+    if let Verdict::Refused(refusal) = asked(parent, depth, head, id, order, size, &[v]) {
+        return Answer::Refused(refusal);
+    }
+    let Stood::On(p) = stand(parent, depth, head, id, v) else {
+        return Answer::Refused(Refusal::BadTable);
+    };
+    Answer::Is(p.id)
+}
