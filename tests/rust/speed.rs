@@ -29,14 +29,25 @@ use std::hint::black_box;
 use std::time::Instant;
 use tables::Tables;
 
-// Fewer where the limits are lifted, since each build takes a second there.
-const ROUNDS: usize = if cfg!(lifted) { 2 } else { 7 };
+fn told(word: &str) -> bool {
+    std::env::args().any(|said| said == word)
+}
+
+// Fewer where the limits are lifted, since each build takes a second there, and one where instructions are counted.
+fn rounds() -> usize {
+    match (cfg!(lifted), told("--count")) {
+        (_, true) => 1,
+        (true, false) => 2,
+        (false, false) => 7,
+    }
+}
+
 const QUESTIONS: usize = 4_096;
 
 // Nanoseconds of the quickest round of each of the two.
 fn race(mut ours: impl FnMut(), mut theirs: impl FnMut()) -> (f64, f64) {
     let (mut a, mut b) = (f64::MAX, f64::MAX);
-    for _ in 0..ROUNDS {
+    for _ in 0..rounds() {
         let start = Instant::now();
         ours();
         a = a.min(start.elapsed().as_nanos() as f64);
@@ -235,11 +246,11 @@ fn refusals(n: usize, random: &mut Random) {
 }
 
 fn main() {
-    let lifted = std::env::args().any(|word| word == "--large");
-    let sizes: &[usize] = if lifted {
-        &[1_000_000]
-    } else {
-        &[1_024, 32_768]
+    let (lifted, counted) = (told("--large"), told("--count"));
+    let sizes: &[usize] = match (lifted, counted) {
+        (true, _) => &[1_000_000],
+        (false, true) => &[1_024],
+        (false, false) => &[1_024, 32_768],
     };
     let mut random = Random::new(8);
     println!("      n shape        what                          ours, ns     theirs, ns  ratio");
@@ -253,7 +264,7 @@ fn main() {
             queries(n, shape, &tables, &hld, &mut random);
         }
     }
-    if !lifted {
+    if !lifted && !counted {
         println!(
             "      n shape        what                       refused, ns   accepted, ns  ratio"
         );
