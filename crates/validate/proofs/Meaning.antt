@@ -2,13 +2,10 @@
 use Prim.Native.Nat.{ℕ, _≤_, _<_}
 use native.Mathlib.Omega.{arith}
 use mathlib.Core.Path.{_≡_, refl}
-use mathlib.Core.Logic.{_≢_, _⊎_, inl, inr, _↔_}
+use mathlib.Core.Logic.{inl, inr, _↔_}
 use mathlib.Core.List.{List}
 use lib.ListN.{length}
-use Rattle.sums.specs.Sum.{count}
-use Rattle.sums.proofs.Sums.{equal-or-not}
-use Rattle.sums.proofs.Search.{all-or-one}
-use Rattle.paths.specs.Tree.{Symmetric, AllReached, Tree}
+use Rattle.paths.specs.Tree.{AllReached, Tree}
 use Rattle.graph.specs.Codes.{done}
 use Rattle.graph.specs.Judgement.{First}
 use Rattle.graph.specs.Lent.{vertices, listOf, Offsets, Targets}
@@ -69,13 +66,3 @@ accepted os ts root {w} {w′} {c} val = (λ z. only (val .code) z, λ a. first-
             ),
           ),
         )
-
--- lists are symmetric, or "some v stands in u's list more or less often than u in v's"
-pub symmetric-or-not : (n : ℕ) (A : ℕ → List ℕ) → Symmetric n A ⊎ ((u : ℕ) × (u < n) × ((v : ℕ) × (v < n) × (count v (A u) ≢ count u (A v))))
-symmetric-or-not n A = turn (all-or-one n (λ u. (v : ℕ) → v < n → count v (A u) ≡ count u (A v)) (λ u. (v : ℕ) × (v < n) × (count v (A u) ≢ count u (A v)))
-    (λ u h. all-or-one n (λ v. count v (A u) ≡ count u (A v)) (λ v. count v (A u) ≢ count u (A v)) (λ v k. equal-or-not (count v (A u)) (count u (A v)) inl inr)))
-  where
-    turn : ((u : ℕ) → u < n → (v : ℕ) → v < n → count v (A u) ≡ count u (A v)) ⊎ ((u : ℕ) × (u < n) × ((v : ℕ) × (v < n) × (count v (A u) ≢ count u (A v))))
-        → Symmetric n A ⊎ ((u : ℕ) × (u < n) × ((v : ℕ) × (v < n) × (count v (A u) ≢ count u (A v))))
-    turn (inl s) = inl (λ u v hu hv. s u hu v hv)
-    turn (inr d) = inr d

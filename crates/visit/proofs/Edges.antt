@@ -1,19 +1,19 @@
--- Symmetric lists whose vertices are all reached are a tree exactly if they have 2 (n - 1) entries.
+-- Lists whose vertices are all reached, each standing in its parent's list and its parent in its own, are a tree exactly if they have
+-- 2 (n - 1) entries.
 use Prim.Native.Nat.{ℕ, _-_, _*_, _≤_, _<_}
 use native.Mathlib.Omega.{arith}
 use mathlib.Core.Path.{_≡_, sym, _∙_, subst}
-use mathlib.Core.Logic.{_⊎_, ⊎-elim, by-cases}
+use mathlib.Core.Logic.{⊎-elim, by-cases}
 use mathlib.Core.List.{List}
 use lib.ListN.{length}
 use Rattle.sums.specs.Sum.{sum, count}
 use Rattle.sums.proofs.Sums.{sum-ext, sum-mono, sum-tight}
 use Rattle.paths.specs.Walk.{In, Below}
 use Rattle.paths.specs.Tree.{Symmetric, Tree}
-use Rattle.paths.specs.Rooted.{Rooted, Child, Spans}
-use Rattle.paths.specs.Walk.{Stands}
+use Rattle.paths.specs.Rooted.{Rooted, Child}
 use Rattle.paths.specs.Route.{links}
-use Rattle.paths.proofs.Counted.{in-count, count-length}
-use Rattle.paths.proofs.Links.{links-one, links-none, link-dec, links-span, links-tree, tree-links}
+use Rattle.paths.proofs.Counted.{in-count, count-in, count-length}
+use Rattle.paths.proofs.Links.{links-one, links-none, link-dec, links-tree, tree-links}
 use Rattle.paths.proofs.LinkTotal.{links-total}
 
 -- all entries of all lists
@@ -34,7 +34,12 @@ module _ {n root : ℕ} (A : ℕ → List ℕ) {par dep : ℕ → ℕ} (R : Root
       (λ u hu. sum-ext n (λ v. count v (A u)) (λ v. links par dep u v) (λ v hv. tree-links R A t held u v hu hv))
       ∙ links-total R
 
-  module _ (s : Symmetric n A) where
+  -- in symmetric lists each vertex but the root has its parent in its own list
+  pub symmetric-back : Symmetric n A → (v : ℕ) → v < n → 0 < dep v → In (par v) (A v)
+  symmetric-back s v h d =
+      count-in (par v) (A v) (let k = in-count v (A (par v)) (held v h d) in let e = s (par v) v (R .par-below v h d) h in omega arith)
+
+  module _ (back : (v : ℕ) → v < n → 0 < dep v → In (par v) (A v)) where
     -- each link stands in the lists
     links-stand : (u v : ℕ) → u < n → v < n → links par dep u v ≤ count v (A u)
     links-stand u v hu hv =
@@ -46,7 +51,7 @@ module _ {n root : ℕ} (A : ℕ → List ℕ) {par dep : ℕ → ℕ} (R : Root
         down u v hu hv c = in-count v (A u) (subst (λ (x : ℕ). In v (A x)) (c .1) (held v hv (c .0)))
 
         up : (u v : ℕ) → u < n → v < n → Child par dep v u → 0 < count v (A u)
-        up u v hu hv c = (let k = down v u hv hu c in let e = s u v hu hv in omega arith)
+        up u v hu hv c = in-count v (A u) (subst (λ (x : ℕ). In x (A u)) (c .1) (back u hu (c .0)))
 
     links-sum : (u : ℕ) → u < n → sum n (λ v. links par dep u v) ≤ sum n (λ v. count v (A u))
     links-sum u hu = sum-mono n (λ v. links par dep u v) (λ v. count v (A u)) (λ v hv. links-stand u v hu hv)
@@ -62,6 +67,3 @@ module _ {n root : ℕ} (A : ℕ → List ℕ) {par dep : ℕ → ℕ} (R : Root
 
     pub entries-tree : entryCount n A ≡ 2 * (n - 1) → Tree n A
     entries-tree few = links-tree R A (counts-links few) below
-
-    pub entries-span : entryCount n A ≡ 2 * (n - 1) → Spans n (Stands A) root par dep
-    entries-span few = links-span R A (counts-links few)

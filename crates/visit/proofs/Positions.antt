@@ -109,6 +109,15 @@ module _ {n : ℕ} {A : ℕ → List ℕ} {root : ℕ} {q p e g : ℕ → ℕ} (
       subst (λ (x : ℕ). In x (A (parOf q p g v))) (vis .entry (g v) j b ∙ pl .back v h)
       (at-in (A (parOf q p g v)) (e (g v)) (vis .place (g v) j b))
 
+  -- each vertex but the root has its parent in its list exactly if each but the first has there the one from which it was met
+  pub listed-back : ((j : ℕ) → 0 < j → j < n → In (q (p j)) (A (q j))) → (v : ℕ) → v < n → 0 < depOf p g v → In (parOf q p g v) (A v)
+  listed-back l v h d = subst (λ (x : ℕ). In (parOf q p g v) (A x)) (pl .back v h) (l (g v) (deep-later v h d) (pl .below v h))
+
+  pub back-listed : ((v : ℕ) → v < n → 0 < depOf p g v → In (parOf q p g v) (A v)) → (j : ℕ) → 0 < j → j < n → In (q (p j)) (A (q j))
+  back-listed b j a h =
+      subst (λ (x : ℕ). In (q (p x)) (A (q j))) (pl .forth j h)
+      (b (q j) (vis .below j h) (let k = depth-later p n (vis .earlier) j a h in let s = ap (depthOf p) (pl .forth j h) in omega arith))
+
   -- so the root reaches every vertex
   pub visit-reaches : AllReached n A root
   visit-reaches =
