@@ -1,5 +1,5 @@
 -- Laws of the climb: one look of it in each case, what a move keeps, and the state of a climb under way.
-use Prim.Native.Nat.{ℕ, suc, _+_, _-_, _*_, _≤_, _<_}
+use Prim.Native.Nat.{ℕ, suc, _+_, _*_, _≤_, _<_}
 use native.Mathlib.Omega.{arith}
 use mathlib.Core.Path.{_≡_, refl, ap}
 use mathlib.Core.Bool.{Bool, true, false}
@@ -11,13 +11,12 @@ use Rattle.graph.specs.Limits.{noParent}
 use Rattle.numbering.specs.Log.{log2}
 use Rattle.tables.specs.Tables.{Six}
 use Rattle.climb.specs.Choice.{pick}
-use Rattle.climb.specs.Sound.{standOn}
+use Rattle.climb.specs.Sound.{Stood, On, Unsound, standOn}
 use Rattle.climb.specs.Climbing.{leaveChain, climbing, climbTo, climbStart, uMoved, vMoved}
 use Rattle.climb.specs.Inner.{Placed}
 use Rattle.climb.specs.declared.places.Place.{Place}
 use Rattle.climb.specs.declared.places.Climb.{Climb}
-use Rattle.climb.specs.declared.places.Stood.{Stood}
-use Rattle.climb.specs.declared.places.Stood.the-variants.{On, Unsound}
+use Rattle.climb.specs.declared.places.Climbed.{Climbed}
 use Rattle.climb.specs.declared.places.Climbed.the-variants.{Met, Lost}
 use Rattle.climb.proofs.Soundness.{stood-place, stood-placed}
 
@@ -78,6 +77,25 @@ module _ (k n : ℕ) (t : Six) (c : Climb) (apart : c .u .head ≡ c .v .head �
   unfolding climbing
   climb-v-lost h e = rw (ne-eqb (c .u .head) (c .v .head) apart, lt-leb (c .v .top) (c .u .top) h, e, climbing)
 
+-- by how the chain was left
+abbrev pub climb-by : (Place → Climbed) → Stood → Climbed
+climb-by f s = elim s [ On p ↦ f p | Unsound ↦ Lost ]
+
+module _ (k n : ℕ) (t : Six) (c : Climb) (apart : c .u .head ≡ c .v .head → ⊥) where
+  pub climb-by-u : c .v .top ≤ c .u .top → climbing (suc k) n t c ≡ climb-by (λ q. climbing k n t (uMoved c q)) (leaveChain n t (c .u) (c .«u_count»))
+  climb-by-u h = on (leaveChain n t (c .u) (c .«u_count»)) refl
+    where
+      on : (s : Stood) → leaveChain n t (c .u) (c .«u_count») ≡ s → climbing (suc k) n t c ≡ climb-by (λ q. climbing k n t (uMoved c q)) s
+      on (On p) e = climb-u k n t c apart h e
+      on Unsound e = climb-u-lost k n t c apart h e
+
+  pub climb-by-v : c .u .top < c .v .top → climbing (suc k) n t c ≡ climb-by (λ q. climbing k n t (vMoved c q)) (leaveChain n t (c .v) (c .«v_count»))
+  climb-by-v h = on (leaveChain n t (c .v) (c .«v_count»)) refl
+    where
+      on : (s : Stood) → leaveChain n t (c .v) (c .«v_count») ≡ s → climbing (suc k) n t c ≡ climb-by (λ q. climbing k n t (vMoved c q)) s
+      on (On p) e = climb-v k n t c apart h e
+      on Unsound e = climb-v-lost k n t c apart h e
+
 -- The climb from u and v.
 
 pub climb-from : (n : ℕ) (t : Six) (u v : ℕ) {p r : Place}
@@ -92,3 +110,11 @@ climb-off-u n t u v e = rw (climbTo, e)
 pub climb-off-v : (n : ℕ) (t : Six) (u v : ℕ) {p : Place} → standOn n t u ≡ On p → standOn n t v ≡ Unsound → Lost ≡ climbTo n t u v
 unfolding climbTo
 climb-off-v n t u v e f = rw (climbTo, e, f)
+
+-- whatever u is
+pub climb-none-v : (n : ℕ) (t : Six) (u v : ℕ) → standOn n t v ≡ Unsound → Lost ≡ climbTo n t u v
+climb-none-v n t u v e = on (standOn n t u) refl
+  where
+    on : (s : Stood) → standOn n t u ≡ s → Lost ≡ climbTo n t u v
+    on (On p) f = climb-off-v n t u v f e
+    on Unsound f = climb-off-u n t u v f

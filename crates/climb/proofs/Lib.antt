@@ -1,7 +1,7 @@
 pub mod Choices
 pub mod Soundness
+pub mod Reaching
 pub mod Climbs
 pub mod Going
 pub mod Passed
 pub mod Handed
-pub mod Logs

@@ -9,7 +9,7 @@ use lib.Dec.{eqb, leb, ltb}
 use lib.ListN.{length, drop, getD, drop-of-length-le}
 use lib.Seq.{drop-cons}
 use borrow.Author.Tests.{lt-ltb, le-ltb, ltb-true, leb-true, eqb-true}
-use Rattle.graph.specs.Limits.{maxVertices}
+use Rattle.graph.specs.Limits.{maxVertices, noParent}
 use Rattle.tables.specs.Tables.{Six}
 use Rattle.climb.specs.Choice.{pick, both}
 use Rattle.climb.specs.Asked.{sizeOf, tables?, vertices?, asked}
@@ -75,6 +75,7 @@ verdict-refused t vs f x e = stopped (tables? t) (vertices? (sizeOf t) vs) f x e
 -- the lengths, once the tables were passed
 pub record Lengths (t : Six) : Type 0 where
   pub some : 1 ≤ sizeOf t
+  pub few : sizeOf t ≤ maxVertices
   pub even : Even (t .parent) (t .depth) (t .head) (t .id)
   pub order : length (t .order) ≡ sizeOf t
   pub size : length (t .size) ≡ sizeOf t
@@ -89,6 +90,7 @@ lengths {t} {vs} p =
     let o = both-true (eqb (length (t .order)) (sizeOf t)) _ (i .1) in
     record {
       some = leb-true _ _ (a .0);
+      few = leb-true _ _ (b .0);
       even = record { depth = eqb-true _ _ (d .0); head = eqb-true _ _ (h .0); id = eqb-true _ _ (i .0) };
       order = eqb-true _ _ (o .0);
       size = eqb-true _ _ (o .1);
@@ -104,3 +106,8 @@ others {t} {u} {vs} p = record { tables = p .tables; vertices = both-true (ltb u
 -- a query that passed its tests answers what it is asked
 pub answered : {A : Type 0} {t : Six} {vs : List ℕ} → Passed t vs → (f : Refusal → A) {a x : A} → a ≡ x → a ≡ asked t vs f x
 answered {A} {t} {vs} p f {a} {x} e = e ∙ asked-answer t vs f x (p .tables) (p .vertices)
+
+-- no vertex is the number that says "no parent"
+pub few-parent : {n : ℕ} → n ≤ maxVertices → n ≤ noParent
+unfolding maxVertices noParent
+few-parent h = omega arith

@@ -6,11 +6,9 @@ use Rattle.graph.specs.Limits.{noParent}
 use Rattle.numbering.specs.Log.{log2}
 use Rattle.tables.specs.Tables.{Six}
 use Rattle.climb.specs.Choice.{pick}
-use Rattle.climb.specs.Sound.{standOn}
+use Rattle.climb.specs.Sound.{Stood, On, Unsound, standOn}
 use Rattle.climb.specs.declared.places.Place.{Place}
 use Rattle.climb.specs.declared.places.Climb.{Climb}
-use Rattle.climb.specs.declared.places.Stood.{Stood}
-use Rattle.climb.specs.declared.places.Stood.the-variants.{On, Unsound}
 use Rattle.climb.specs.declared.places.Climbed.{Climbed}
 use Rattle.climb.specs.declared.places.Climbed.the-variants.{Met, Lost}
 
@@ -25,16 +23,6 @@ uMoved c p = record { u = p; v = c .v; «u_count» = c .«u_count» + 1; «v_cou
 
 abbrev pub vMoved : Climb → Place → Climb
 vMoved c p = record { u = c .u; v = p; «u_count» = c .«u_count»; «v_count» = c .«v_count» + 1 }
-
--- "the side with the deeper head moves, u on a tie": the end that moves, how many chains its side has left, and the state after its move to p
-abbrev pub moverOf : Climb → Place
-moverOf c = pick (leb (c .v .top) (c .u .top)) (c .u) (c .v)
-
-abbrev pub leftOf : Climb → ℕ
-leftOf c = pick (leb (c .v .top) (c .u .top)) (c .«u_count») (c .«v_count»)
-
-abbrev pub movedTo : Climb → Place → Climb
-movedTo c p = pick (leb (c .v .top) (c .u .top)) (uMoved c p) (vMoved c p)
 
 -- "While heads differ, the side with the deeper head moves, u on a tie", in at most the given number of looks
 unfoldable pub climbing : ℕ → ℕ → Six → Climb → Climbed

@@ -8,8 +8,6 @@ use Rattle.graph.specs.Limits.{noParent}
 use Rattle.tables.specs.Tables.{Six}
 use Rattle.climb.specs.Choice.{pick, both}
 use Rattle.climb.specs.declared.places.Place.{Place}
-use Rattle.climb.specs.declared.places.Stood.{Stood}
-use Rattle.climb.specs.declared.places.Stood.the-variants.{On, Unsound}
 
 -- the entries of a vertex
 abbrev pub parentIn : Six → ℕ → ℕ
@@ -54,6 +52,11 @@ placeOf t x =
       first = idIn t (headIn t x);
       up = parentIn t (headIn t x);
     }
+
+-- where a query stands: on a sound vertex with what was read of it, or on none
+pub data Stood : Type 0 where
+  On : Place → Stood
+  Unsound : Stood
 
 -- "Each vertex a query stands on must be sound"
 abbrev pub standOn : ℕ → Six → ℕ → Stood

@@ -2,6 +2,5 @@
 pub mod answers;
 pub mod asked;
 pub mod climbing;
-pub mod log;
 pub mod places;
 pub mod sound;

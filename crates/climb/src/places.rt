@@ -1,9 +1,9 @@
 // A vertex that a query stands on, and the state of a climb.
 ghost use mathlib.Core.Path.{_≡_};
 ghost use Prim.Native.Nat.{_+_, _<_, _^_};
-ghost use Rattle.climb.specs.Climbing.{climbStart, uMoved, vMoved, moverOf, leftOf, movedTo, ancestorOf};
+ghost use Rattle.climb.specs.Climbing.{climbStart, uMoved, vMoved, ancestorOf};
 
-// A sound vertex with what was read of it and of the head of its chain. `up` is the head's parent, NO_PARENT where it has none.
+// A vertex with what was read of it and of the head of its chain. `up` is the head's parent, NO_PARENT where it has none.
 pub struct Place {
     pub vertex: usize,
     pub depth: usize,
@@ -14,9 +14,11 @@ pub struct Place {
     pub up: usize,
 }
 
-pub enum Stood {
-    On(Place),
-    Unsound,
+// What was found where a vertex was reached: where it is not sound, the numbers of the place mean nothing. An enum would say so better, but the
+// compiler then keeps the place in memory and not in registers, and a climb takes a third more instructions.
+pub struct Reached {
+    pub sound: bool,
+    pub place: Place,
 }
 
 // A climb from two ends, with the number of chains that each side has left.
@@ -63,42 +65,6 @@ impl Climb {
         self.v = p;
         self.v_count += 1;
         self
-    }
-
-    // The end that leaves its chain next: that with the deeper head, u on a tie.
-    pub fn mover(self) -> Place
-        ensures { λ r. ⌜ r ≡ moverOf self ⌝ }
-    {
-        let u = self.u;
-        let v = self.v;
-        if v.top <= u.top { u } else { v }
-    }
-
-    // How many chains its side has left.
-    pub fn left(self) -> usize
-        ensures { λ r. ⌜ r ≡ leftOf self ⌝ }
-    {
-        let u = self.u;
-        let v = self.v;
-        if v.top <= u.top {
-            self.u_count
-        } else {
-            self.v_count
-        }
-    }
-
-    // That side has left its chain for the place p.
-    pub fn moved(self, p: Place) -> Climb
-        requires { ⌜ leftOf self + 1 < 2 ^ 64 ⌝ }
-        ensures { λ r. ⌜ r ≡ movedTo self p ⌝ }
-    {
-        let u = self.u;
-        let v = self.v;
-        if v.top <= u.top {
-            self.u_moved(p)
-        } else {
-            self.v_moved(p)
-        }
     }
 
     // Of two ends with one head the shallower is the ancestor, u at equal depth.

@@ -14,11 +14,10 @@ use Rattle.numbering.proofs.Bounds.{lights-one, lights-log}
 use Rattle.numbering.proofs.Climbs.{same-head-top}
 use Rattle.numbering.proofs.Leaves.{deeper-head-pos, chain-leave, chain-leave-top, chain-arrive, chain-arrive-top}
 use Rattle.tables.specs.Tables.{Six}
-use Rattle.climb.specs.Sound.{parentIn, depthIn, headIn, placeOf}
+use Rattle.climb.specs.Sound.{parentIn, depthIn, headIn, placeOf, On}
 use Rattle.climb.specs.Climbing.{leaveChain, uMoved, vMoved, climbing, climbTo, ancestorOf}
 use Rattle.climb.specs.declared.places.Place.{Place}
 use Rattle.climb.specs.declared.places.Climb.{Climb}
-use Rattle.climb.specs.declared.places.Stood.the-variants.{On}
 use Rattle.climb.specs.declared.places.Climbed.the-variants.{Met}
 use Rattle.pathlaws.specs.Given.{Given, OnIn, pathIn, topIn, lightsIn}
 use Rattle.pathlaws.specs.Meeting.{Meeting}

@@ -16,9 +16,8 @@ use Rattle.numbering.proofs.Whole.{id-below}
 use Rattle.numbering.proofs.Chains.{head-below, head-dep, head-first, head-id, par-first, top-chain}
 use Rattle.tables.specs.Tables.{Six}
 use Rattle.climb.specs.Choice.{both}
-use Rattle.climb.specs.Sound.{parentIn, depthIn, headIn, idIn, hung?, sound?, placeOf, standOn}
+use Rattle.climb.specs.Sound.{parentIn, depthIn, headIn, idIn, hung?, sound?, placeOf, standOn, On}
 use Rattle.climb.specs.Asked.{sizeOf, tables?, vertices?, asked}
-use Rattle.climb.specs.declared.places.Stood.the-variants.{On}
 use Rattle.climb.specs.declared.answers.Refusal.{Refusal}
 use Rattle.climb.specs.declared.answers.Refusal.the-variants.{BadVertex}
 use Rattle.pathlaws.specs.Given.{Given}

@@ -2,41 +2,38 @@
 use Prim.Native.Nat.{ℕ, _+_, _-_, _*_, _≤_, _<_}
 use mathlib.Core.Path.{_≡_, refl, sym, ap, _∙_}
 use mathlib.Core.Bool.{Bool, true, false}
+use mathlib.Core.List.{List}
 use lib.Dec.{leb}
-use lib.ListN.{length}
+use lib.ListN.{getD}
 use borrow.Author.Tests.{le-leb, lt-leb}
 use Rattle.tables.specs.Tables.{Six}
 use Rattle.climb.specs.Choice.{pick}
-use Rattle.climb.specs.Sound.{depthIn, standOn}
+use Rattle.climb.specs.Sound.{depthIn, standOn, Unsound}
 use Rattle.climb.specs.Climbing.{climbTo, ancestorOf}
-use Rattle.climb.specs.Inner.{StoodOn}
 use Rattle.queries.specs.Queries.{distanceIn, deeper, lcaIn, ancestorIn, jumpIn}
-use Rattle.queries.specs.Inner.{candidateOf, endOf, EndedAt, deeperCandidate}
+use Rattle.queries.specs.Inner.{candidateOf, endOf, deeperCandidate, Deepest}
 use Rattle.queries.specs.declared.between.Candidate.{Candidate}
 use Rattle.queries.specs.declared.between.Ended.{Ended}
 use Rattle.queries.specs.declared.between.Ended.the-variants.{At, Nowhere}
 use Rattle.climb.specs.declared.places.Place.{Place}
 use Rattle.climb.specs.declared.places.Climb.{Climb}
-use Rattle.climb.specs.declared.places.Stood.{Stood}
-use Rattle.climb.specs.declared.places.Stood.the-variants.{On, Unsound}
 use Rattle.climb.specs.declared.places.Climbed.{Climbed}
 use Rattle.climb.specs.declared.places.Climbed.the-variants.{Met, Lost}
 use Rattle.climb.specs.declared.answers.Refusal.the-variants.{BadTable, TooFar}
 use Rattle.climb.specs.declared.answers.Answer.{Answer}
 use Rattle.climb.specs.declared.answers.Answer.the-variants.{Is, Refused}
-use Rattle.climb.proofs.Soundness.{stood-depth, stood-vertex}
 use Rattle.climb.proofs.Climbs.{climb-off-u}
 
 module _ (n : ℕ) (t : Six) (u v : ℕ) where
   pub distance-lost : climbTo n t u v ≡ Lost → Refused BadTable ≡ distanceIn n t u v
   distance-lost e = rw (distanceIn, e)
 
-  -- the depths are those of the places where one stands on u and v
-  pub distance-met : {p q : Place} → standOn n t u ≡ On p → standOn n t v ≡ On q → {c : Climb} → climbTo n t u v ≡ Met c → {w : Place} → w ≡ ancestorOf c
-      → Is (p .depth + q .depth - 2 * w .depth) ≡ distanceIn n t u v
-  distance-met {p} {q} on-u on-v e {w} f =
-      ap (λ (d : ℕ). Is (d + q .depth - 2 * w .depth)) (stood-depth n t u on-u)
-      ∙ (ap (λ (d : ℕ). Is (depthIn t u + d - 2 * w .depth)) (stood-depth n t v on-v)
+  -- du and dv are the depths that were read of u and v
+  pub distance-met : {du dv : ℕ} → du ≡ depthIn t u → dv ≡ depthIn t v → {c : Climb} → climbTo n t u v ≡ Met c → {w : Place} → w ≡ ancestorOf c
+      → Is (du + dv - 2 * w .depth) ≡ distanceIn n t u v
+  distance-met {du} {dv} is-du is-dv e {w} f =
+      ap (λ (d : ℕ). Is (d + dv - 2 * w .depth)) is-du
+      ∙ (ap (λ (d : ℕ). Is (depthIn t u + d - 2 * w .depth)) is-dv
       ∙ (ap (λ (a : Place). Is (depthIn t u + depthIn t v - 2 * a .depth)) f ∙ rw (distanceIn, e)))
 
 -- The LCA: its candidates are the ends of the three climbs.
@@ -119,46 +116,52 @@ lca-off-r n t r u v off = first (endOf (climbTo n t u v)) refl
     first Nowhere e = lca-lost-1 n t r u v e
     first (At a) e = lca-lost-2 n t r u v e (ap endOf (sym (climb-off-u n t r u off)))
 
--- the climb from the places of u and v ends where the climb from u and v does
-module _ (t : Six) (u v : ℕ) {a b : Stood} {p q : Place}
-    (stands-u : StoodOn (t .parent) (t .depth) (t .head) (t .id) u a) (on-u : a ≡ On p)
-    (stands-v : StoodOn (t .parent) (t .depth) (t .head) (t .id) v b) (on-v : b ≡ On q) where
-  pub ended-is : {r x : Ended} → EndedAt (t .parent) (t .depth) (t .head) (t .id) (p .vertex) (q .vertex) r → r ≡ x → endOf (climbTo (length (t .parent)) t u v) ≡ x
-  ended-is ended e =
-      sym
-      (ended (t .order) (t .size)
-      ∙ (ap (λ (y : ℕ). endOf (climbTo (length (t .parent)) t y (q .vertex))) (stood-vertex (length (t .parent)) t u (sym (stands-u (t .order) (t .size)) ∙ on-u))
-      ∙ ap (λ (y : ℕ). endOf (climbTo (length (t .parent)) t u y)) (stood-vertex (length (t .parent)) t v (sym (stands-v (t .order) (t .size)) ∙ on-v))))
-      ∙ e
+-- an entry of a list of candidates
+abbrev entry : List Candidate → ℕ → Candidate
+entry l i = getD l i (record { vertex = 0; depth = 0 })
 
--- the steps from u up to the ancestor w
-abbrev up : Six → ℕ → Place → ℕ
-up t u w = depthIn t u - w .depth
+-- d is the deeper of the first two of a list, w the deeper of it and the third
+pub deepest-three : (l : List Candidate) {d w : Candidate} → d ≡ deeperCandidate (entry l 0) (entry l 1) → w ≡ deeperCandidate d (entry l 2) → Deepest l w
+deepest-three l f g a b c e =
+    g
+    ∙ (ap (λ (x : Candidate). deeperCandidate x (entry l 2)) f
+    ∙ ap (λ (m : List Candidate). deeperCandidate (deeperCandidate (entry m 0) (entry m 1)) (entry m 2)) e)
 
--- the jump by way of w
-abbrev jumpBy : ℕ → Six → ℕ → ℕ → ℕ → Place → Answer
-jumpBy n t u v k w =
-    pick (leb k (up t u w)) (ancestorIn n t u k)
-    (pick (leb k (up t u w + up t v w)) (ancestorIn n t v (up t u w + up t v w - k)) (Refused TooFar))
+-- the climb from the vertices of two places ends where the climb from u and v does
+pub ended-there : (n : ℕ) (t : Six) {u v x y : ℕ} → x ≡ u → y ≡ v → endOf (climbTo n t x y) ≡ endOf (climbTo n t u v)
+ended-there n t {u} {v} {x} {y} a b = ap (λ (k : ℕ). endOf (climbTo n t k y)) a ∙ ap (λ (k : ℕ). endOf (climbTo n t u k)) b
+
+-- Jumps.
+
+-- by way of an ancestor: `up` steps above u, and `all` steps from u to v
+abbrev jumpBy : ℕ → Six → ℕ → ℕ → (up all k : ℕ) → Answer
+jumpBy n t u v up all k = pick (leb k up) (ancestorIn n t u k) (pick (leb k all) (ancestorIn n t v (all - k)) (Refused TooFar))
 
 module _ (n : ℕ) (t : Six) (u v k : ℕ) where
   pub jump-lost : climbTo n t u v ≡ Lost → Refused BadTable ≡ jumpIn n t u v k
   jump-lost e = rw (jumpIn, e)
 
-  module _ {c : Climb} (met : climbTo n t u v ≡ Met c) where
-    jump-met : jumpIn n t u v k ≡ jumpBy n t u v k (ancestorOf c)
-    jump-met = rw (jumpIn, met)
+  -- du and dv are the depths that were read of u and v
+  module _ {du dv : ℕ} (is-du : du ≡ depthIn t u) (is-dv : dv ≡ depthIn t v) {c : Climb} (met : climbTo n t u v ≡ Met c) {w : Place} (is : w ≡ ancestorOf c) where
+    jump-met : jumpBy n t u v (du - w .depth) (du - w .depth + (dv - w .depth)) k ≡ jumpIn n t u v k
+    jump-met =
+        ap (λ (d : ℕ). jumpBy n t u v (d - w .depth) (d - w .depth + (dv - w .depth)) k) is-du
+        ∙ (ap (λ (d : ℕ). jumpBy n t u v (depthIn t u - w .depth) (depthIn t u - w .depth + (d - w .depth)) k) is-dv
+        ∙ (ap (λ (a : Place). jumpBy n t u v (depthIn t u - a .depth) (depthIn t u - a .depth + (depthIn t v - a .depth)) k) is ∙ rw (jumpIn, met)))
 
-    module _ {w : Place} (is : w ≡ ancestorOf c) where
-      jump-by : jumpBy n t u v k w ≡ jumpIn n t u v k
-      jump-by = ap (jumpBy n t u v k) is ∙ sym jump-met
+    -- on the way up
+    pub jump-up : k ≤ du - w .depth → ancestorIn n t u k ≡ jumpIn n t u v k
+    jump-up h = rw (le-leb k (du - w .depth) h) at jump-met
 
-      pub jump-up : k ≤ up t u w → ancestorIn n t u k ≡ jumpIn n t u v k
-      jump-up h = rw (le-leb k (up t u w) h) at jump-by
+    module _ (h : du - w .depth < k) where
+      -- beyond v
+      pub jump-far : du - w .depth + (dv - w .depth) < k → Refused TooFar ≡ jumpIn n t u v k
+      jump-far g = rw (lt-leb k (du - w .depth) h, lt-leb k (du - w .depth + (dv - w .depth)) g) at jump-met
 
-      module _ (h : up t u w < k) where
-        pub jump-far : up t u w + up t v w < k → Refused TooFar ≡ jumpIn n t u v k
-        jump-far g = rw (lt-leb k (up t u w) h, lt-leb k (up t u w + up t v w) g) at jump-by
+      -- on the way down
+      pub jump-down : k ≤ du - w .depth + (dv - w .depth) → ancestorIn n t v (du - w .depth + (dv - w .depth) - k) ≡ jumpIn n t u v k
+      jump-down g = rw (lt-leb k (du - w .depth) h, le-leb k (du - w .depth + (dv - w .depth)) g) at jump-met
 
-        pub jump-down : k ≤ up t u w + up t v w → ancestorIn n t v (up t u w + up t v w - k) ≡ jumpIn n t u v k
-        jump-down g = rw (lt-leb k (up t u w) h, le-leb k (up t u w + up t v w) g) at jump-by
+-- the jump between the vertices of two places is the jump from u to v
+pub jump-there : (n : ℕ) (t : Six) {u v x y : ℕ} (k : ℕ) → x ≡ u → y ≡ v → jumpIn n t x y k ≡ jumpIn n t u v k
+jump-there n t {u} {v} {x} {y} k a b = ap (λ (z : ℕ). jumpIn n t z y k) a ∙ ap (λ (z : ℕ). jumpIn n t u z k) b

@@ -7,11 +7,10 @@ use borrow.Author.Tests.{le-leb, lt-leb, lt-ltb, le-ltb, eq-eqb, ne-eqb, leb-tru
 use Rattle.sums.specs.Sum.{at}
 use Rattle.tables.specs.Tables.{Six}
 use Rattle.climb.specs.Choice.{pick, both}
-use Rattle.climb.specs.Sound.{sound?, standOn, placeOf}
+use Rattle.climb.specs.Sound.{sound?, standOn, placeOf, On, Unsound}
 use Rattle.queries.specs.Queries.{ancestorIn, withoutChild, reRootedSize, sizeSound?}
 use Rattle.queries.specs.Inner.{counted?}
 use Rattle.climb.specs.declared.places.Place.{Place}
-use Rattle.climb.specs.declared.places.Stood.the-variants.{On, Unsound}
 use Rattle.climb.specs.declared.answers.Refusal.{Refusal}
 use Rattle.climb.specs.declared.answers.Refusal.the-variants.{BadTable}
 use Rattle.climb.specs.declared.answers.Answer.{Answer}

@@ -1,5 +1,4 @@
 pub mod Rising
 pub mod Reading
 pub mod Answering
-pub mod Jumping
 pub mod Counting

@@ -7,11 +7,10 @@ use borrow.Author.Tests.{lt-ltb, le-ltb}
 use Rattle.sums.specs.Sum.{at}
 use Rattle.tables.specs.Tables.{Six}
 use Rattle.climb.specs.Choice.{pick, both}
-use Rattle.climb.specs.Sound.{sound?, standOn}
+use Rattle.climb.specs.Sound.{sound?, standOn, On, Unsound}
 use Rattle.climb.specs.Asked.{sizeOf, asked}
 use Rattle.queries.specs.Queries.{vertexCount, rootOf}
 use Rattle.climb.specs.declared.places.Place.{Place}
-use Rattle.climb.specs.declared.places.Stood.the-variants.{On, Unsound}
 use Rattle.climb.specs.declared.answers.Refusal.the-variants.{BadTable}
 use Rattle.climb.specs.declared.answers.Answer.{Answer}
 use Rattle.climb.specs.declared.answers.Answer.the-variants.{Is, Refused}

@@ -3,18 +3,18 @@
 use Prim.Native.Nat.{ℕ, _+_, _-_, _≤_, _<_}
 use mathlib.Core.Path.{_≡_}
 use mathlib.Core.Bool.{Bool}
-use mathlib.Core.List.{List}
+use mathlib.Core.List.{List, [], _∷_}
 use lib.Dec.{leb}
 use lib.ListN.{length}
-use Rattle.tables.specs.Tables.{six}
+use Rattle.tables.specs.Tables.{Six, six}
 use Rattle.climb.specs.Choice.{pick, both}
-use Rattle.climb.specs.Sound.{standOn}
+use Rattle.climb.specs.Sound.{standOn, On}
 use Rattle.climb.specs.Climbing.{climbTo, ancestorOf}
-use Rattle.climb.specs.Inner.{Even, Placed, ClimbsFrom}
+use Rattle.climb.specs.Inner.{Even, hangs?, Seat, ClimbsFrom}
 use Rattle.queries.specs.Queries.{entryAt, ancestorFrom, ancestorIn, jumpIn, withoutChild}
 use Rattle.climb.specs.declared.answers.Answer.{Answer}
-use Rattle.climb.specs.declared.answers.Answer.the-variants.{Is}
-use Rattle.climb.specs.declared.places.Stood.the-variants.{On}
+use Rattle.climb.specs.declared.answers.Answer.the-variants.{Is, Refused}
+use Rattle.climb.specs.declared.answers.Refusal.the-variants.{BadTable}
 use Rattle.queries.specs.declared.ancestors.Chained.{Chained}
 use Rattle.queries.specs.declared.ancestors.Chained.the-variants.{Done, Up}
 use Rattle.climb.specs.declared.places.Place.{Place}
@@ -35,20 +35,25 @@ pub record Looks (n : ℕ) (D I O : List ℕ) (i : ℕ) : Type 0 where
 abbrev pub Looked : (n : ℕ) (D I O : List ℕ) (i d : ℕ) → Answer → Type 0
 Looked n D I O i d r = (P H s : List ℕ) → r ≡ entryAt n (six P D H I O s) i d
 
+-- a place that was reached
 pub record Rises (P D H I O : List ℕ) (p : Place) : Type 0 where
   pub even : Even P D H I
   pub order : length O ≡ length P
-  pub place : Placed (length P) D p
+  pub seat : Seat P D H I p
+
+-- k steps up from a place that was reached, whose head must hang
+abbrev pub riseFrom : ℕ → ℕ → Six → Place → ℕ → Answer
+riseFrom chains n t p k = pick (hangs? n (t .depth) (t .id) p) (ancestorFrom chains n t p k) (Refused BadTable)
 
 abbrev pub Risen : (P D H I O : List ℕ) → ℕ → Place → ℕ → Answer → Type 0
-Risen P D H I O chains p k r = (s : List ℕ) → r ≡ ancestorFrom chains (length P) (six P D H I O s) p k
+Risen P D H I O chains p k r = (s : List ℕ) → r ≡ riseFrom chains (length P) (six P D H I O s) p k
 
 -- one chain up, at q with l steps left: the lookup from there is the lookup from p
 pub record Onward (P D H I O : List ℕ) (chains : ℕ) (p : Place) (k : ℕ) (q : Place) (l : ℕ) : Type 0 where
   pub some-chain : 1 ≤ chains
   pub fewer : l < k
-  pub place : Placed (length P) D q
-  pub same : (s : List ℕ) → ancestorFrom (chains - 1) (length P) (six P D H I O s) q l ≡ ancestorFrom chains (length P) (six P D H I O s) p k
+  pub seat : Seat P D H I q
+  pub same : (s : List ℕ) → riseFrom (chains - 1) (length P) (six P D H I O s) q l ≡ riseFrom chains (length P) (six P D H I O s) p k
 
 abbrev pub OneChain : (P D H I O : List ℕ) → ℕ → Place → ℕ → Chained → Type 0
 OneChain P D H I O chains p k (Done a) = Risen P D H I O chains p k a
@@ -84,6 +89,10 @@ EndedAt P D H I u v r = (o s : List ℕ) → r ≡ endOf (climbTo (length P) (si
 
 abbrev pub deeperCandidate : Candidate → Candidate → Candidate
 deeperCandidate a b = pick (leb (a .depth) (b .depth)) b a
+
+-- the last deepest of three
+abbrev pub Deepest : List Candidate → Candidate → Type 0
+Deepest l r = (a b c : Candidate) → l ≡ a ∷ b ∷ c ∷ [] → r ≡ deeperCandidate (deeperCandidate a b) c
 
 -- Sizes.
 

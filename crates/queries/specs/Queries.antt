@@ -9,10 +9,9 @@ use Rattle.numbering.specs.Log.{log2}
 use Rattle.tables.specs.Tables.{Six}
 use Rattle.climb.specs.Choice.{pick, both}
 use Rattle.climb.specs.Asked.{sizeOf, asked}
-use Rattle.climb.specs.Sound.{depthIn, idIn, sound?, standOn}
+use Rattle.climb.specs.Sound.{depthIn, idIn, sound?, standOn, On, Unsound}
 use Rattle.climb.specs.Climbing.{climbTo, ancestorOf}
 use Rattle.climb.specs.declared.places.Place.{Place}
-use Rattle.climb.specs.declared.places.Stood.the-variants.{On, Unsound}
 use Rattle.climb.specs.declared.places.Climbed.the-variants.{Met, Lost}
 use Rattle.climb.specs.declared.answers.Refusal.the-variants.{BadTable, TooFar}
 use Rattle.climb.specs.declared.answers.Answer.{Answer}

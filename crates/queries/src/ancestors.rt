@@ -4,8 +4,9 @@ use climb::answers::Refusal;
 use climb::asked::Verdict;
 use climb::asked::asked;
 use climb::places::Place;
-use climb::places::Stood;
-use climb::sound::stand;
+use climb::sound::hangs;
+use climb::sound::reach;
+use climb::sound::reach_above;
 use graph::codes::NO_PARENT;
 ghost use mathlib.Core.Path.{_≡_};
 ghost use Rattle.numbering.specs.Log.{log2};
@@ -37,7 +38,7 @@ fn entry_at(n: usize, depth: &[u32], id: &[u32], order: &[u32], i: usize, d: usi
     Answer::Is(y)
 }
 
-// k steps up from p: on its chain, or off it while chains may be left. `room` is n, halved once for each chain that was left: one more may be
+// k steps up from p, a place that was reached: on its chain, or off it while chains may be left. Either way the head of the chain must hang. `room` is n, halved once for each chain that was left: one more may be
 // left while it is 2 or more, so at most the floor of log2 n are.
 fn one_chain(
     parent: &[u32],
@@ -54,19 +55,27 @@ fn one_chain(
 {
     let steps = p.depth - p.top;
     if k <= steps {
+        if !hangs(parent.len(), depth, id, p) {
+            return Chained::Done(Answer::Refused(Refusal::BadTable));
+        }
         return Chained::Done(entry_at(parent.len(), depth, id, order, p.id - k, p.depth - k));
     }
     let up = p.up;
     if up == NO_PARENT as usize {
+        if p.top != 0 {
+            return Chained::Done(Answer::Refused(Refusal::BadTable));
+        }
         return Chained::Done(Answer::Refused(Refusal::TooFar));
     }
     if room < 2 {
         return Chained::Done(Answer::Refused(Refusal::BadTable));
     }
-    let Stood::On(r) = stand(parent, depth, head, id, up) else {
+    let next = reach_above(parent, depth, head, id, p);
+    if !next.sound {
         return Chained::Done(Answer::Refused(Refusal::BadTable));
-    };
-    Chained::Up(r, k - (steps + 1))
+    }
+    let above = next.place;
+    Chained::Up(above, k - (steps + 1))
 }
 
 // k steps up from p, with `room` for chains to leave.
@@ -102,10 +111,11 @@ pub fn ancestor_in(
     requires { ⌜ Finds (now parent) (now depth) (now head) (now id) (now order) v ⌝ }
     ensures { λ r. ⌜ Found (now (parent .entry)) (now (depth .entry)) (now (head .entry)) (now (id .entry)) (now (order .entry)) v k r ⌝ }
 {
-    let Stood::On(p) = stand(parent, depth, head, id, v) else {
+    let p = reach(parent, depth, head, id, v);
+    if !p.sound {
         return Answer::Refused(Refusal::BadTable);
-    };
-    let found = ancestor_from(parent, depth, head, id, order, parent.len(), p, k);
+    }
+    let found = ancestor_from(parent, depth, head, id, order, parent.len(), p.place, k);
     let Answer::Is(x) = found else {
         return found;
     };

@@ -1,18 +1,18 @@
-// Queries that climb: the distance, the LCA and jumps. Each vertex that is asked about is stood on once, and its place is handed on.
+// Queries that climb: the distance, the LCA and jumps. Each vertex that is asked about is reached once, and its place is handed on.
 use crate::ancestors::ancestor_from;
 use climb::answers::Answer;
 use climb::answers::Refusal;
 use climb::asked::Verdict;
 use climb::asked::asked;
-use climb::climbing::climb_from;
+use climb::climbing::climb_to_lca;
 use climb::places::Climbed;
 use climb::places::Place;
-use climb::places::Stood;
-use climb::sound::stand;
+use climb::sound::hangs;
+use climb::sound::reach;
 ghost use mathlib.Core.Path.{_≡_};
 ghost use Rattle.tables.specs.Tables.{six};
 ghost use Rattle.climb.specs.Inner.{ClimbsFrom};
-ghost use Rattle.queries.specs.Inner.{EndedAt, deeperCandidate as deeperOf, Jumps, Jumped};
+ghost use Rattle.queries.specs.Inner.{EndedAt, deeperCandidate as deeperOf, Deepest, Jumps, Jumped};
 ghost use Rattle.queries.specs.Queries.{distance as distanceOf, lca as lcaOf, jump as jumpOf};
 
 // What the choice of the LCA needs of the place where a climb ended.
@@ -42,17 +42,22 @@ pub fn distance(
     if let Verdict::Refused(refusal) = asked(parent, depth, head, id, order, size, &[u, v]) {
         return Answer::Refused(refusal);
     }
-    let Stood::On(p) = stand(parent, depth, head, id, u) else {
+    let p = reach(parent, depth, head, id, u);
+    if !p.sound {
+        return Answer::Refused(Refusal::BadTable);
+    }
+    let q = reach(parent, depth, head, id, v);
+    if !q.sound {
+        return Answer::Refused(Refusal::BadTable);
+    }
+    let Climbed::Met(c) = climb_to_lca(parent, depth, head, id, p.place, q.place) else {
         return Answer::Refused(Refusal::BadTable);
     };
-    let Stood::On(q) = stand(parent, depth, head, id, v) else {
+    if !hangs(parent.len(), depth, id, c.u) {
         return Answer::Refused(Refusal::BadTable);
-    };
-    let Climbed::Met(c) = climb_from(parent, depth, head, id, p, q) else {
-        return Answer::Refused(Refusal::BadTable);
-    };
+    }
     let w = c.ancestor();
-    Answer::Is(p.depth + q.depth - 2 * w.depth)
+    Answer::Is(p.place.depth + q.place.depth - 2 * w.depth)
 }
 
 // The place where p and q meet, as a candidate: only its vertex and depth are handed on.
@@ -60,9 +65,12 @@ fn meeting(parent: &[u32], depth: &[u32], head: &[u32], id: &[u32], p: Place, q:
     requires { ⌜ ClimbsFrom (now parent) (now depth) (now head) (now id) p q ⌝ }
     ensures { λ r. ⌜ EndedAt (now (parent .entry)) (now (depth .entry)) (now (head .entry)) (now (id .entry)) (p .vertex) (q .vertex) r ⌝ }
 {
-    let Climbed::Met(c) = climb_from(parent, depth, head, id, p, q) else {
+    let Climbed::Met(c) = climb_to_lca(parent, depth, head, id, p, q) else {
         return Ended::Nowhere;
     };
+    if !hangs(parent.len(), depth, id, c.u) {
+        return Ended::Nowhere;
+    }
     let w = c.ancestor();
     Ended::At(Candidate {
         vertex: w.vertex,
@@ -77,7 +85,14 @@ fn deeper(a: Candidate, b: Candidate) -> Candidate
     if a.depth <= b.depth { b } else { a }
 }
 
-// The lowest common ancestor of u and v as if r were the root: the last deepest of the three under the build root.
+// The last deepest of the three candidates.
+fn deepest(candidates: [Candidate; 3]) -> Candidate
+    ensures { λ r. ⌜ Deepest candidates r ⌝ }
+{
+    deeper(deeper(candidates[0], candidates[1]), candidates[2])
+}
+
+// The lowest common ancestor of u and v as if r were the root.
 pub fn lca(
     parent: &[u32],
     depth: &[u32],
@@ -94,27 +109,28 @@ pub fn lca(
     if let Verdict::Refused(refusal) = asked(parent, depth, head, id, order, size, &[r, u, v]) {
         return Answer::Refused(refusal);
     }
-    let Stood::On(s) = stand(parent, depth, head, id, r) else {
+    let s = reach(parent, depth, head, id, r);
+    if !s.sound {
+        return Answer::Refused(Refusal::BadTable);
+    }
+    let p = reach(parent, depth, head, id, u);
+    if !p.sound {
+        return Answer::Refused(Refusal::BadTable);
+    }
+    let q = reach(parent, depth, head, id, v);
+    if !q.sound {
+        return Answer::Refused(Refusal::BadTable);
+    }
+    let Ended::At(a) = meeting(parent, depth, head, id, p.place, q.place) else {
         return Answer::Refused(Refusal::BadTable);
     };
-    let Stood::On(p) = stand(parent, depth, head, id, u) else {
+    let Ended::At(b) = meeting(parent, depth, head, id, s.place, p.place) else {
         return Answer::Refused(Refusal::BadTable);
     };
-    let Stood::On(q) = stand(parent, depth, head, id, v) else {
+    let Ended::At(c) = meeting(parent, depth, head, id, s.place, q.place) else {
         return Answer::Refused(Refusal::BadTable);
     };
-    let Ended::At(a) = meeting(parent, depth, head, id, p, q) else {
-        return Answer::Refused(Refusal::BadTable);
-    };
-    let Ended::At(b) = meeting(parent, depth, head, id, s, p) else {
-        return Answer::Refused(Refusal::BadTable);
-    };
-    let Ended::At(c) = meeting(parent, depth, head, id, s, q) else {
-        return Answer::Refused(Refusal::BadTable);
-    };
-    let candidates = [a, b, c];
-    let w = deeper(deeper(candidates[0], candidates[1]), candidates[2]);
-    Answer::Is(w.vertex)
+    Answer::Is(deepest([a, b, c]).vertex)
 }
 
 // The vertex k steps from p on the way to q: up to the ancestor, then down, counted from q. An answer is taken apart and made again, which
@@ -132,32 +148,27 @@ fn jump_from(
     requires { ⌜ Jumps (now parent) (now depth) (now head) (now id) (now order) p q ⌝ }
     ensures { λ r. ⌜ Jumped (now (parent .entry)) (now (depth .entry)) (now (head .entry)) (now (id .entry)) (now (order .entry)) p q k r ⌝ }
 {
-    let Climbed::Met(c) = climb_from(parent, depth, head, id, p, q) else {
+    let n = parent.len();
+    let Climbed::Met(c) = climb_to_lca(parent, depth, head, id, p, q) else {
         return Answer::Refused(Refusal::BadTable);
     };
+    if !hangs(n, depth, id, c.u) {
+        return Answer::Refused(Refusal::BadTable);
+    }
     let w = c.ancestor();
     let up = p.depth - w.depth;
-    let down = q.depth - w.depth;
+    let all = up + (q.depth - w.depth);
     if k <= up {
-        let found = ancestor_from(parent, depth, head, id, order, parent.len(), p, k);
+        let found = ancestor_from(parent, depth, head, id, order, n, p, k);
         let Answer::Is(x) = found else {
             return found;
         };
         return Answer::Is(x);
     }
-    if up + down < k {
+    if all < k {
         return Answer::Refused(Refusal::TooFar);
     }
-    let found = ancestor_from(
-        parent,
-        depth,
-        head,
-        id,
-        order,
-        parent.len(),
-        q,
-        up + down - k,
-    );
+    let found = ancestor_from(parent, depth, head, id, order, n, q, all - k);
     let Answer::Is(x) = found else {
         return found;
     };
@@ -181,11 +192,13 @@ pub fn jump(
     if let Verdict::Refused(refusal) = asked(parent, depth, head, id, order, size, &[u, v]) {
         return Answer::Refused(refusal);
     }
-    let Stood::On(p) = stand(parent, depth, head, id, u) else {
+    let p = reach(parent, depth, head, id, u);
+    if !p.sound {
         return Answer::Refused(Refusal::BadTable);
-    };
-    let Stood::On(q) = stand(parent, depth, head, id, v) else {
+    }
+    let q = reach(parent, depth, head, id, v);
+    if !q.sound {
         return Answer::Refused(Refusal::BadTable);
-    };
-    jump_from(parent, depth, head, id, order, p, q, k)
+    }
+    jump_from(parent, depth, head, id, order, p.place, q.place, k)
 }

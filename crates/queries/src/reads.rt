@@ -3,7 +3,6 @@ use climb::answers::Answer;
 use climb::answers::Refusal;
 use climb::asked::Verdict;
 use climb::asked::asked;
-use climb::places::Stood;
 use climb::sound::stand;
 ghost use mathlib.Core.Path.{_≡_};
 ghost use Rattle.tables.specs.Tables.{six};
@@ -44,9 +43,10 @@ pub fn root(
     if parent.len() <= r {
         return Answer::Refused(Refusal::BadTable);
     }
-    let Stood::On(_) = stand(parent, depth, head, id, r) else {
+    let found = stand(parent, depth, head, id, r);
+    if !found.sound {
         return Answer::Refused(Refusal::BadTable);
-    };
+    }
     Answer::Is(r)
 }
 
@@ -65,10 +65,11 @@ pub fn depth(
     if let Verdict::Refused(refusal) = asked(parent, depth, head, id, order, size, &[v]) {
         return Answer::Refused(refusal);
     }
-    let Stood::On(p) = stand(parent, depth, head, id, v) else {
+    let found = stand(parent, depth, head, id, v);
+    if !found.sound {
         return Answer::Refused(Refusal::BadTable);
-    };
-    Answer::Is(p.depth)
+    }
+    Answer::Is(found.place.depth)
 }
 
 // The number of v.
@@ -86,8 +87,9 @@ pub fn vertex_id(
     if let Verdict::Refused(refusal) = asked(parent, depth, head, id, order, size, &[v]) {
         return Answer::Refused(refusal);
     }
-    let Stood::On(p) = stand(parent, depth, head, id, v) else {
+    let found = stand(parent, depth, head, id, v);
+    if !found.sound {
         return Answer::Refused(Refusal::BadTable);
-    };
-    Answer::Is(p.id)
+    }
+    Answer::Is(found.place.id)
 }

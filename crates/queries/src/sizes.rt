@@ -6,7 +6,6 @@ use climb::answers::Refusal;
 use climb::asked::Verdict;
 use climb::asked::asked;
 use climb::places::Place;
-use climb::places::Stood;
 use climb::sound::stand;
 ghost use mathlib.Core.Path.{_≡_};
 ghost use Prim.Native.Nat.{_+_, _<_, _^_};
@@ -41,14 +40,16 @@ pub fn subtree_range(
     if let Verdict::Refused(refusal) = asked(parent, depth, head, id, order, size, &[v]) {
         return Interval::Refused(refusal);
     }
-    let Stood::On(p) = stand(parent, depth, head, id, v) else {
-        return Interval::Refused(Refusal::BadTable);
-    };
-    let count = size[v] as usize;
-    if !size_sound(parent.len(), p.id, count) {
+    let found = stand(parent, depth, head, id, v);
+    if !found.sound {
         return Interval::Refused(Refusal::BadTable);
     }
-    Interval::Between(p.id, p.id + count)
+    let first = found.place.id;
+    let count = size[v] as usize;
+    if !size_sound(parent.len(), first, count) {
+        return Interval::Refused(Refusal::BadTable);
+    }
+    Interval::Between(first, first + count)
 }
 
 // The size of the subtree of b's vertex where a's vertex, another one, is the root: its own size where the root lies outside of it, else
@@ -116,14 +117,16 @@ pub fn subtree_size(
     if let Verdict::Refused(refusal) = asked(parent, depth, head, id, order, size, &[r, v]) {
         return Answer::Refused(refusal);
     }
-    let Stood::On(a) = stand(parent, depth, head, id, r) else {
+    let a = stand(parent, depth, head, id, r);
+    if !a.sound {
         return Answer::Refused(Refusal::BadTable);
-    };
-    let Stood::On(b) = stand(parent, depth, head, id, v) else {
+    }
+    let b = stand(parent, depth, head, id, v);
+    if !b.sound {
         return Answer::Refused(Refusal::BadTable);
-    };
+    }
     if r == v {
         return Answer::Is(parent.len());
     }
-    re_rooted_size(parent, depth, head, id, order, size, a, b)
+    re_rooted_size(parent, depth, head, id, order, size, a.place, b.place)
 }

@@ -1,55 +1,74 @@
--- A head that hangs from a parent has a number above 0, since its parent's number is smaller.
-use Prim.Native.Nat.{ℕ, _+_, _-_, _≤_, _<_}
+-- Heads that hang: under such a head one stands on what was reached, and leaves its chain for what was reached above it.
+use Prim.Native.Nat.{ℕ, _≤_}
 use native.Mathlib.Omega.{arith}
-use mathlib.Core.Path.{_≡_, refl, sym, _∙_, subst}
+use mathlib.Core.Path.{_≡_, sym, _∙_, subst}
 use mathlib.Core.Bool.{Bool, true, false}
-use lib.Dec.{eqb, leb, ltb}
-use borrow.Author.Tests.{ltb-true, ne-eqb}
+use lib.Dec.{ltb}
 use Rattle.graph.specs.Limits.{noParent}
 use Rattle.numbering.specs.Log.{log2}
 use Rattle.tables.specs.Tables.{Six}
 use Rattle.climb.specs.Choice.{pick}
-use Rattle.climb.specs.Sound.{depthIn, headIn, idIn, parentIn, hung?, sound?, standOn, placeOf}
+use Rattle.climb.specs.Asked.{sizeOf}
+use Rattle.climb.specs.Sound.{On, Unsound, standOn}
 use Rattle.climb.specs.Climbing.{leaveChain}
+use Rattle.climb.specs.Inner.{hangsFrom?, hangs?, ReachedOn, Seat, Left}
 use Rattle.climb.specs.declared.places.Place.{Place}
-use Rattle.climb.specs.declared.places.Stood.the-variants.{On, Unsound}
-use Rattle.climb.proofs.Choices.{both-true}
-use Rattle.climb.proofs.Soundness.{stood-place}
-use Rattle.climb.proofs.Climbs.{leave-parentless, leave-stands}
+use Rattle.climb.specs.declared.places.Reached.{Reached}
+use Rattle.climb.proofs.Choices.{pick-true, pick-false, both-true}
+use Rattle.climb.proofs.Soundness.{hangs-from}
+use Rattle.climb.proofs.Reaching.{reached-vertex, reached-seat, seat-stand, left-stand}
 
--- the head of a place has a number above 0 where it has a parent
-abbrev pub Hung : Place → Type 0
-Hung p = (p .up ≡ noParent → ⊥) → 1 ≤ p .first
+-- what was reached, and whether a head hangs, at all six tables
+abbrev pub ReachedIn : Six → ℕ → Reached → Type 0
+ReachedIn t x r = ReachedOn (t .parent) (t .depth) (t .head) (t .id) x r
 
-hung-number : (n : ℕ) (t : Six) (h p : ℕ) → hung? n t h p ≡ true → (p ≡ noParent → ⊥) → 1 ≤ idIn t h
-hung-number n t h p e ne =
-    let a = both-true (ltb p n) _ (rw (ne-eqb p noParent ne) at e) in
-    let b = both-true (eqb (depthIn t p + 1) (depthIn t h)) _ (a .1) in
-    omega (arith, ltb-true (idIn t p) (idIn t h) (b .1))
+abbrev pub LeftIn : Six → Place → ℕ → Reached → Type 0
+LeftIn t p left r = Left (t .parent) (t .depth) (t .head) (t .id) p left r
 
-sound-hung : (n : ℕ) (t : Six) (x : ℕ) → sound? n t x ≡ true → Hung (placeOf t x)
-unfolding sound?
-sound-hung n t x e =
-    let h = both-true (ltb (headIn t x) n) _ e in
-    let a = both-true (leb (depthIn t (headIn t x)) (depthIn t x)) _ (h .1) in
-    let b = both-true (ltb (depthIn t x) n) _ (a .1) in
-    let c = both-true (leb (idIn t (headIn t x)) (idIn t x)) _ (b .1) in
-    let d = both-true (ltb (idIn t x) n) _ (c .1) in
-    let f = both-true (eqb (idIn t x - idIn t (headIn t x)) (depthIn t x - depthIn t (headIn t x))) _ (d .1) in
-    hung-number n t (headIn t x) (parentIn t (headIn t x)) (f .1)
+abbrev SeatIn : Six → Place → Type 0
+SeatIn t p = Seat (t .parent) (t .depth) (t .head) (t .id) p
 
-passed : (b : Bool) (q : Place) {p : Place} → pick b (On q) Unsound ≡ On p → b ≡ true
-passed true q e = refl
-passed false q e = let z : _≡_ {A = ℕ} 0 1 = cc in absurd (omega arith)
+abbrev pub hangsIn : Six → Place → Bool
+hangsIn t p = hangs? (sizeOf t) (t .depth) (t .id) p
 
--- where a query stands
-pub stood-hung : (n : ℕ) (t : Six) (x : ℕ) {p : Place} → standOn n t x ≡ On p → Hung p
-stood-hung n t x e = subst Hung (sym (stood-place n t x e)) (sound-hung n t x (passed (sound? n t x) (placeOf t x) e))
+-- x was reached
+module _ (t : Six) {x : ℕ} {r : Reached} (reached : ReachedIn t x r) (on : r .sound ≡ true) where
+  stood-by : standOn (sizeOf t) t x ≡ pick (hangsIn t (r .place)) (On (r .place)) Unsound
+  stood-by =
+      subst (λ (y : ℕ). standOn (sizeOf t) t y ≡ pick (hangsIn t (r .place)) (On (r .place)) Unsound)
+      (reached-vertex (t .parent) (t .depth) (t .head) (t .id) reached on)
+      (seat-stand (t .parent) (t .depth) (t .head) (t .id) (r .place) (reached-seat (t .parent) (t .depth) (t .head) (t .id) reached on) (t .order) (t .size))
 
--- a chain that is left has a head with a parent
-pub left-parent : (n : ℕ) (t : Six) (p : Place) (left : ℕ) {q : Place} → leaveChain n t p left ≡ On q → p .up ≡ noParent → ⊥
-left-parent n t p left e up = let f = leave-parentless n t p left up in let z : _≡_ {A = ℕ} 0 1 = cc in omega arith
+  pub reached-unhung : hangsIn t (r .place) ≡ false → standOn (sizeOf t) t x ≡ Unsound
+  reached-unhung e = stood-by ∙ pick-false (On (r .place)) Unsound e
 
--- where a side stands after it left a chain
-pub left-hung : (n : ℕ) (t : Six) (p : Place) (left : ℕ) {q : Place} → left < log2 n → leaveChain n t p left ≡ On q → Hung q
-left-hung n t p left few e = stood-hung n t (p .up) (leave-stands n t p left (left-parent n t p left e) few ∙ e)
+  pub reached-hung : hangsIn t (r .place) ≡ true → standOn (sizeOf t) t x ≡ On (r .place)
+  reached-hung e = stood-by ∙ pick-true (On (r .place)) Unsound e
+
+-- the chain of a seat is left
+module _ (t : Six) (p : Place) (left : ℕ) {r : Reached} (leaves : LeftIn t p left r) where
+  -- its head hangs from a parent, whose number is smaller: so its own number is above 0
+  pub left-number : r .sound ≡ true → 1 ≤ p .first
+  left-number on =
+      let a = both-true (ltb left (log2 (sizeOf t))) _ (sym (leaves .sound) ∙ on) in
+      let b = both-true (hangsFrom? (sizeOf t) (t .depth) (t .id) (p .up) (p .top) (p .first)) _ (a .1) in
+      omega (arith, hangs-from (sizeOf t) (t .depth) (t .id) (p .up) (p .top) (p .first) (b .0) .1 .1)
+
+  module _ (small : sizeOf t ≤ noParent) (seat : SeatIn t p) (hung : hangsIn t p ≡ true) where
+    left-by : leaveChain (sizeOf t) t p left ≡ pick (r .sound) (pick (hangsIn t (r .place)) (On (r .place)) Unsound) Unsound
+    left-by =
+        sym (pick-true (leaveChain (sizeOf t) t p left) Unsound hung)
+        ∙ left-stand (t .parent) (t .depth) (t .head) (t .id) p seat left leaves small (t .order) (t .size)
+
+    pub left-off : r .sound ≡ false → leaveChain (sizeOf t) t p left ≡ Unsound
+    left-off e = left-by ∙ pick-false (pick (hangsIn t (r .place)) (On (r .place)) Unsound) Unsound e
+
+    module _ (on : r .sound ≡ true) where
+      left-next : leaveChain (sizeOf t) t p left ≡ pick (hangsIn t (r .place)) (On (r .place)) Unsound
+      left-next = left-by ∙ pick-true (pick (hangsIn t (r .place)) (On (r .place)) Unsound) Unsound on
+
+      pub left-unhung : hangsIn t (r .place) ≡ false → leaveChain (sizeOf t) t p left ≡ Unsound
+      left-unhung e = left-next ∙ pick-false (On (r .place)) Unsound e
+
+      pub left-hung : hangsIn t (r .place) ≡ true → leaveChain (sizeOf t) t p left ≡ On (r .place)
+      left-hung e = left-next ∙ pick-true (On (r .place)) Unsound e

@@ -3,21 +3,18 @@ use Prim.Native.Nat.{ℕ, _+_, _*_, _≤_, _<_, _^_}
 use native.Mathlib.Omega.{arith}
 use mathlib.Core.Path.{_≡_, refl, sym, ap, _∙_, subst}
 use mathlib.Core.List.{List, [], _∷_, _++_}
-use lib.Dec.{leb}
 use lib.ListN.{length, drop}
-use borrow.Author.Tests.{le-leb, lt-leb, leb-true}
+use borrow.Author.Tests.{le-leb, lt-leb}
 use Rattle.graph.specs.Limits.{maxVertices}
 use Rattle.tables.specs.Tables.{Six}
 use Rattle.climb.specs.Asked.{sizeOf, asked}
 use Rattle.climb.specs.Climbing.{climbTo}
-use Rattle.climb.specs.Inner.{Climbs}
 use Rattle.climb.specs.declared.answers.Refusal.{Refusal}
 use Rattle.climb.specs.declared.answers.Refusal.the-variants.{NoRoom, BadTable}
 use Rattle.climb.specs.declared.asked.Verdict.the-variants.{Ready, Refused as Stopped}
 use Rattle.climb.specs.declared.places.Climb.{Climb}
 use Rattle.climb.specs.declared.places.Climbed.{Climbed}
 use Rattle.climb.specs.declared.places.Climbed.the-variants.{Met, Lost}
-use Rattle.climb.proofs.Choices.{both-true}
 use Rattle.climb.proofs.Passed.{asked-answer, verdict-passed, verdict-refused, lengths, first-below, others}
 use Rattle.ranges.specs.declared.kinds.PathRange.{PathRange}
 use Rattle.ranges.specs.declared.kinds.Kind.{Kind}
@@ -26,7 +23,7 @@ use Rattle.ranges.specs.declared.chains.Last.{Last}
 use Rattle.ranges.specs.declared.chains.Last.the-variants.{One, Empty}
 use Rattle.ranges.specs.Ranges.{found, lastChain, pathRanges}
 use Rattle.ranges.specs.Calls.{Answered, refused, listed, fromFound, rangesOf, flat}
-use Rattle.ranges.specs.Inner.{ListedAs, Ends, lastList, Known}
+use Rattle.ranges.specs.Inner.{ListedAs, Ends, lastList, Climbs, Known}
 use Rattle.ranges.proofs.Bounds.{log2-bounded}
 use Rattle.ranges.proofs.Looks.{Agree, Counted, agree}
 
@@ -80,15 +77,14 @@ module _ (kind : Kind) (t : Six) (u v : ℕ) where
     ready-some = lengths (verdict-passed t (u ∷ v ∷ []) ready) .some
 
     pub ready-small : sizeOf t ≤ maxVertices
-    ready-small =
-        leb-true (sizeOf t) maxVertices
-        (both-true (leb (sizeOf t) maxVertices) _ (both-true (leb 1 (sizeOf t)) _ (verdict-passed t (u ∷ v ∷ []) ready .tables) .1) .0)
+    ready-small = lengths (verdict-passed t (u ∷ v ∷ []) ready) .few
 
     pub ready-climbs : Climbs (t .parent) (t .depth) (t .head) (t .id) u v
     ready-climbs =
         let p = verdict-passed t (u ∷ v ∷ []) ready in
         record {
           even = lengths p .even;
+          small = ready-small;
           u-below = first-below p;
           v-below = first-below (others p);
         }

@@ -9,13 +9,11 @@ use borrow.Author.Tests.{le-leb, lt-leb, eq-eqb, ne-eqb}
 use Rattle.sums.proofs.Sums.{equal-or-not}
 use Rattle.numbering.specs.Log.{log2}
 use Rattle.tables.specs.Tables.{Six}
-use Rattle.climb.specs.Sound.{standOn}
+use Rattle.climb.specs.Sound.{standOn, Stood, On, Unsound}
 use Rattle.climb.specs.Climbing.{leaveChain, climbing, climbTo, climbStart, uMoved, vMoved}
 use Rattle.climb.specs.Inner.{Placed}
 use Rattle.climb.specs.declared.places.Place.{Place}
 use Rattle.climb.specs.declared.places.Climb.{Climb}
-use Rattle.climb.specs.declared.places.Stood.{Stood}
-use Rattle.climb.specs.declared.places.Stood.the-variants.{On, Unsound}
 use Rattle.climb.specs.declared.places.Climbed.{Climbed}
 use Rattle.climb.specs.declared.places.Climbed.the-variants.{Met, Lost}
 use Rattle.climb.proofs.Soundness.{stood-placed}

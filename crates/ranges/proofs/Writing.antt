@@ -1,20 +1,23 @@
--- The state of the second climb, as the loop of `write_path` keeps it: writing what is left into its slots gives the ranges of the path.
+-- The state of the second climb, as the loop of `write_path` keeps it: writing what is left into its slots gives the ranges of the path. Since its
+-- ranges are known, no side is lost, and every head on the way hangs.
 use Prim.Native.Nat.{ℕ, suc, _+_, _-_, _*_, _≤_, _<_}
 use native.Mathlib.Omega.{arith}
 use mathlib.Core.Path.{_≡_, refl, sym, ap, _∙_, subst}
+use mathlib.Core.Bool.{Bool, true, false}
 use mathlib.Core.List.{List, [], _∷_, _++_}
 use lib.ListN.{length, drop, length-append}
 use Rattle.graph.specs.Limits.{maxVertices}
 use Rattle.numbering.specs.Log.{log2}
 use Rattle.tables.specs.Tables.{Six}
 use Rattle.climb.specs.Asked.{sizeOf}
+use Rattle.climb.specs.Sound.{On, Unsound, standOn}
 use Rattle.climb.specs.Climbing.{leaveChain, climbStart, uMoved, vMoved}
-use Rattle.climb.specs.Inner.{StoodOn, Left}
-use Rattle.climb.specs.declared.places.Place.{Place}
 use Rattle.climb.specs.declared.places.Climb.{Climb}
-use Rattle.climb.specs.declared.places.Stood.{Stood}
-use Rattle.climb.specs.declared.places.Stood.the-variants.{On, Unsound}
-use Rattle.climb.proofs.Going.{Going, chainsLeft, going-start, going-u, going-v, u-fewer, v-fewer}
+use Rattle.climb.specs.declared.places.Reached.{Reached}
+use Rattle.climb.proofs.Soundness.{Seated}
+use Rattle.climb.proofs.Reaching.{reached-off, reached-vertex, seat-facts}
+use Rattle.climb.proofs.Going.{Going, chainsLeft, going-begins, going-u, going-v, u-fewer, v-fewer}
+use Rattle.climb.proofs.Handed.{climbs-from}
 use Rattle.ranges.specs.declared.kinds.PathRange.{PathRange}
 use Rattle.ranges.specs.declared.kinds.Kind.{Kind}
 use Rattle.ranges.specs.declared.chains.Last.{Last}
@@ -22,8 +25,9 @@ use Rattle.ranges.specs.declared.kinds.Direction.{Direction}
 use Rattle.ranges.specs.declared.kinds.Direction.the-variants.{Forward, Reversed}
 use Rattle.ranges.specs.Ranges.{Found, lost, found, inFront, behind, chainRange, lastChain, ranging, pathRanges}
 use Rattle.ranges.specs.Calls.{flat}
-use Rattle.ranges.specs.Inner.{Chain, Ends, lastList, written, Small, Slot, LastSlot, Known}
-use Rattle.ranges.proofs.Hung.{Hung, stood-hung, left-parent, left-hung}
+use Rattle.ranges.specs.Inner.{Chain, Ends, lastList, written, Small, Slot, LastSlot, Climbs, Known}
+use Rattle.ranges.proofs.Bounds.{climbs-small}
+use Rattle.ranges.proofs.Hung.{ReachedIn, LeftIn, hangsIn, reached-unhung, reached-hung, left-number, left-off, left-unhung, left-hung}
 use Rattle.ranges.proofs.Numbered.{chain-small, last-chain-small}
 use Rattle.ranges.proofs.Slots.{written-length, written-front, written-back, written-all}
 use Rattle.ranges.proofs.Looks.{uRange, vRange, range-met, range-u, range-u-lost, range-v, range-v-lost, range-from, range-off-u, range-off-v}
@@ -41,102 +45,147 @@ behind-found : (r : PathRange) (f : Found) {l : List PathRange} → behind r f �
 behind-found r lost e = absurd (found-lost e)
 behind-found r (found m) {l} e = let z : l ≡ m ++ (r ∷ []) = cc in (m, refl, z)
 
--- what `stand` and `leave_chain` tell, at all six tables
-abbrev pub StoodIn : Six → ℕ → Stood → Type 0
-StoodIn t x s = StoodOn (t .parent) (t .depth) (t .head) (t .id) x s
-
-abbrev pub LeftIn : Six → Place → ℕ → Stood → Type 0
-LeftIn t p left s = Left (t .parent) (t .depth) (t .head) (t .id) p left s
-
 -- a range of a chain goes into a slot
 chain-slot : (kind : Kind) (l r : ℕ) (d : Direction) (w : List ℕ) (slot : ℕ) {x : PathRange}
     → x ≡ chainRange kind l r d → Chain l r → 3 * slot + 3 ≤ length w → Slot w slot x
 chain-slot kind l r d w slot e h room = record { room = room; small = subst Small (sym e) (chain-small kind l r d (h .numbers)) }
 
--- neither end of a path whose ranges are known is unsound
-module _ (kind : Kind) (t : Six) (u v count : ℕ) (known : Known kind (sizeOf t) t u v count) where
-  pub stands-u : StoodIn t u Unsound → ⊥
-  stands-u a = found-lost (sym (range-off-u kind (sizeOf t) t u v (sym (a (t .order) (t .size)))) ∙ known .same)
+-- a test that cannot fail
+always : (b : Bool) → (b ≡ false → ⊥) → b ≡ true
+always true never = refl
+always false never = absurd (never refl)
 
-  pub stands-v : {p : Place} → StoodIn t u (On p) → StoodIn t v Unsound → ⊥
-  stands-v a b = found-lost (sym (range-off-v kind (sizeOf t) t u v (sym (a (t .order) (t .size))) (sym (b (t .order) (t .size)))) ∙ known .same)
+-- Both ends of a path whose ranges are known were reached, under heads that hang.
+module _ (kind : Kind) (t : Six) (u v count : ℕ) (known : Known kind (sizeOf t) t u v count) {a : Reached} (at-u : ReachedIn t u a) where
+  off-u : standOn (sizeOf t) t u ≡ Unsound → ⊥
+  off-u e = found-lost (sym (range-off-u kind (sizeOf t) t u v e) ∙ known .same)
+
+  pub stands-u : a .sound ≡ false → ⊥
+  stands-u e = off-u (reached-off (t .parent) (t .depth) (t .head) (t .id) at-u e (t .order) (t .size))
+
+  module _ (on-u : a .sound ≡ true) where
+    hangs-u : hangsIn t (a .place) ≡ true
+    hangs-u = always (hangsIn t (a .place)) (λ e. off-u (reached-unhung t at-u on-u e))
+
+    stood-u : standOn (sizeOf t) t u ≡ On (a .place)
+    stood-u = reached-hung t at-u on-u hangs-u
+
+    module _ {b : Reached} (at-v : ReachedIn t v b) where
+      off-v : standOn (sizeOf t) t v ≡ Unsound → ⊥
+      off-v e = found-lost (sym (range-off-v kind (sizeOf t) t u v stood-u e) ∙ known .same)
+
+      pub stands-v : b .sound ≡ false → ⊥
+      stands-v e = off-v (reached-off (t .parent) (t .depth) (t .head) (t .id) at-v e (t .order) (t .size))
+
+      module _ (on-v : b .sound ≡ true) where
+        hangs-v : hangsIn t (b .place) ≡ true
+        hangs-v = always (hangsIn t (b .place)) (λ e. off-v (reached-unhung t at-v on-v e))
+
+        stood-v : standOn (sizeOf t) t v ≡ On (b .place)
+        stood-v = reached-hung t at-v on-v hangs-v
 
 -- The tables, the path and the list as it was lent.
 module _ (kind : Kind) (t : Six) (u v count : ℕ) (lent : List ℕ) where
-  -- `rest` is still to be written, between what both sides have written
+  -- the heads of both ends hang, and `rest` is still to be written, between what both sides have written
   pub record Writing (c : Climb) (w : List ℕ) : Type 0 where
     pub going : Going (t .parent) (t .depth) (t .head) (t .id) (log2 (sizeOf t)) u v c
-    pub u-hung : Hung (c .u)
-    pub v-hung : Hung (c .v)
+    pub u-hung : hangsIn t (c .u) ≡ true
+    pub v-hung : hangsIn t (c .v) ≡ true
     pub rest : List PathRange
     pub left : ranging (suc (chainsLeft (log2 (sizeOf t)) c)) kind (sizeOf t) t c ≡ found rest
     pub fill : c .«u_count» + length rest + c .«v_count» ≡ count
     pub long : length w ≡ length lent
     pub whole : (l : List PathRange) → pathRanges kind (sizeOf t) t u v ≡ found l → written w (c .«u_count») rest ≡ written lent 0 l
 
-  module _ (known : Known kind (sizeOf t) t u v count) where
-    begin : {p r : Place} → StoodIn t u (On p) → StoodIn t v (On r) → Writing (climbStart p r) lent
-    begin {p} {r} a b =
+  module _ (known : Known kind (sizeOf t) t u v count) (climbs : Climbs (t .parent) (t .depth) (t .head) (t .id) u v)
+      {a b : Reached} (at-u : ReachedIn t u a) (on-u : a .sound ≡ true) (at-v : ReachedIn t v b) (on-v : b .sound ≡ true) where
+    starts : Going (t .parent) (t .depth) (t .head) (t .id) (log2 (sizeOf t)) u v (climbStart (a .place) (b .place))
+    starts =
+        subst (λ (x : ℕ). Going (t .parent) (t .depth) (t .head) (t .id) (log2 (sizeOf t)) x v (climbStart (a .place) (b .place)))
+        (reached-vertex (t .parent) (t .depth) (t .head) (t .id) at-u on-u)
+        (subst (λ (y : ℕ). Going (t .parent) (t .depth) (t .head) (t .id) (log2 (sizeOf t)) (a .place .vertex) y (climbStart (a .place) (b .place)))
+        (reached-vertex (t .parent) (t .depth) (t .head) (t .id) at-v on-v)
+        (going-begins (t .parent) (t .depth) (t .head) (t .id)
+        (climbs-from (t .parent) (t .depth) (t .head) (t .id) at-u on-u at-v on-v (climbs .even) (climbs-small climbs)) refl))
+
+    begin : Writing (climbStart (a .place) (b .place)) lent
+    begin =
         let e : suc (2 * (log2 (sizeOf t)) - (0 + 0)) ≡ 2 * log2 (sizeOf t) + 1 = omega arith in
-        let on-u = sym (a (t .order) (t .size)) in
-        let on-v = sym (b (t .order) (t .size)) in
+        let on = stood-u kind t u v count known at-u on-u in
+        let on′ = stood-v kind t u v count known at-u on-u at-v on-v in
         record {
-          going = going-start (t .parent) (t .depth) (t .head) (t .id) (log2 (sizeOf t)) u v refl a b refl;
-          u-hung = stood-hung (sizeOf t) t u on-u;
-          v-hung = stood-hung (sizeOf t) t v on-v;
+          going = starts;
+          u-hung = hangs-u kind t u v count known at-u on-u;
+          v-hung = hangs-v kind t u v count known at-u on-u at-v on-v;
           rest = known .ranges;
           left =
-              ap (λ (k : ℕ). ranging k kind (sizeOf t) t (climbStart p r)) e ∙ (sym (range-from kind (sizeOf t) t u v on-u on-v) ∙ known .same);
+              ap (λ (k : ℕ). ranging k kind (sizeOf t) t (climbStart (a .place) (b .place))) e
+              ∙ (sym (range-from kind (sizeOf t) t u v on on′) ∙ known .same);
           fill = omega (arith, known .counted);
           long = refl;
           whole = λ l f. let z : known .ranges ≡ l = cc in ap (written lent 0) z;
         }
 
-    pub writing-start : {p r : Place} {c : Climb} → StoodIn t u (On p) → StoodIn t v (On r) → c ≡ climbStart p r → Writing c lent
-    writing-start a b e = subst (λ (c : Climb). Writing c lent) (sym e) (begin a b)
+    pub writing-start : {c : Climb} → c ≡ climbStart (a .place) (b .place) → Writing c lent
+    writing-start e = subst (λ (c : Climb). Writing c lent) (sym e) begin
 
   module _ (c : Climb) (w : List ℕ) (g : Writing c w) where
+    u-facts : Seated (sizeOf t) (c .u)
+    u-facts = seat-facts (t .parent) (t .depth) (t .head) (t .id) (c .u) (g .going .u-seat)
+
+    v-facts : Seated (sizeOf t) (c .v)
+    v-facts = seat-facts (t .parent) (t .depth) (t .head) (t .id) (c .v) (g .going .v-seat)
+
     module _ (apart : c .u .head ≡ c .v .head → ⊥) where
-      module _ (h : c .v .top ≤ c .u .top) where
-        pub u-never : LeftIn t (c .u) (c .«u_count») Unsound → ⊥
-        u-never l = found-lost (sym (range-u-lost kind (chainsLeft (log2 (sizeOf t)) c) (sizeOf t) t c apart h (sym (l (t .order) (t .size)))) ∙ g .left)
+      module _ (h : c .v .top ≤ c .u .top) {r : Reached} (l : LeftIn t (c .u) (c .«u_count») r) where
+        u-unsound : leaveChain (sizeOf t) t (c .u) (c .«u_count») ≡ Unsound → ⊥
+        u-unsound e = found-lost (sym (range-u-lost kind (chainsLeft (log2 (sizeOf t)) c) (sizeOf t) t c apart h e) ∙ g .left)
 
-        module _ (q : Place) (l : LeftIn t (c .u) (c .«u_count») (On q)) where
-          u-left : leaveChain (sizeOf t) t (c .u) (c .«u_count») ≡ On q
-          u-left = sym (l (t .order) (t .size))
+        pub u-never : r .sound ≡ false → ⊥
+        u-never e = u-unsound (left-off t (c .u) (c .«u_count») l (g .going .small) (g .going .u-seat) (g .u-hung) e)
 
-          u-rest : (m : List PathRange) × (ranging (chainsLeft (log2 (sizeOf t)) c) kind (sizeOf t) t (uMoved c q) ≡ found m) × (g .rest ≡ uRange kind c ∷ m)
+        module _ (on : r .sound ≡ true) where
+          u-hangs : hangsIn t (r .place) ≡ true
+          u-hangs =
+              always (hangsIn t (r .place))
+              (λ e. u-unsound (left-unhung t (c .u) (c .«u_count») l (g .going .small) (g .going .u-seat) (g .u-hung) on e))
+
+          u-left : leaveChain (sizeOf t) t (c .u) (c .«u_count») ≡ On (r .place)
+          u-left = left-hung t (c .u) (c .«u_count») l (g .going .small) (g .going .u-seat) (g .u-hung) on u-hangs
+
+          u-rest : (m : List PathRange) × (ranging (chainsLeft (log2 (sizeOf t)) c) kind (sizeOf t) t (uMoved c (r .place)) ≡ found m) × (g .rest ≡ uRange kind c ∷ m)
           u-rest =
-              front-found (uRange kind c) (ranging (chainsLeft (log2 (sizeOf t)) c) kind (sizeOf t) t (uMoved c q))
+              front-found (uRange kind c) (ranging (chainsLeft (log2 (sizeOf t)) c) kind (sizeOf t) t (uMoved c (r .place)))
               (sym (range-u kind (chainsLeft (log2 (sizeOf t)) c) (sizeOf t) t c apart h u-left) ∙ g .left)
 
-          pub u-few : c .«u_count» < (log2 (sizeOf t))
-          u-few = u-fewer (t .parent) (t .depth) (t .head) (t .id) (log2 (sizeOf t)) u v c (g .going) apart h q l
+          u-few : c .«u_count» < (log2 (sizeOf t))
+          u-few = u-fewer (t .parent) (t .depth) (t .head) (t .id) (log2 (sizeOf t)) u v c (g .going) apart h l on
 
           u-room : c .«u_count» + 1 + c .«v_count» ≤ count
           u-room = let e = ap length (u-rest .2) in omega (arith, g .fill)
 
           pub u-chain : sizeOf t ≤ maxVertices → Chain (c .u .first) (c .u .id + 1)
           u-chain small =
-              let p = g .going .u-placed in
-              let a = g .u-hung (left-parent (sizeOf t) t (c .u) (c .«u_count») u-left) in
-              record { above = a; numbers = record { some = omega (arith, p .first-low); small = omega (arith, p .id-below) } }
+              record {
+                above = left-number t (c .u) (c .«u_count») l on;
+                numbers = record { some = omega (arith, u-facts .first-low); small = omega (arith, u-facts .id-below) };
+              }
 
           pub u-slot : sizeOf t ≤ maxVertices → 3 * count ≤ length lent → {x : PathRange} → x ≡ uRange kind c → Slot w (c .«u_count») x
           u-slot small room e =
               chain-slot kind (c .u .first) (c .u .id + 1) Reversed w (c .«u_count») e (u-chain small) (omega (arith, u-room, g .long))
 
-          u-next : Writing (uMoved c q) (written w (c .«u_count») (uRange kind c ∷ []))
+          u-next : Writing (uMoved c (r .place)) (written w (c .«u_count») (uRange kind c ∷ []))
           u-next =
               let few = u-few in
               let e = ap length (u-rest .2) in
-              let k : suc (chainsLeft (log2 (sizeOf t)) (uMoved c q)) ≡ chainsLeft (log2 (sizeOf t)) c = omega (arith, g .going .v-few) in
+              let k : suc (chainsLeft (log2 (sizeOf t)) (uMoved c (r .place))) ≡ chainsLeft (log2 (sizeOf t)) c = omega (arith, g .going .v-few) in
               record {
-                going = going-u (t .parent) (t .depth) (t .head) (t .id) (log2 (sizeOf t)) u v c (g .going) apart h q l refl;
-                u-hung = left-hung (sizeOf t) t (c .u) (c .«u_count») (omega (arith, g .going .limit)) u-left;
+                going = going-u (t .parent) (t .depth) (t .head) (t .id) (log2 (sizeOf t)) u v c (g .going) apart h l on refl;
+                u-hung = u-hangs;
                 v-hung = g .v-hung;
                 rest = u-rest .0;
-                left = ap (λ (i : ℕ). ranging i kind (sizeOf t) t (uMoved c q)) k ∙ u-rest .1;
+                left = ap (λ (i : ℕ). ranging i kind (sizeOf t) t (uMoved c (r .place))) k ∙ u-rest .1;
                 fill = omega (arith, g .fill);
                 long = written-length w (c .«u_count») (uRange kind c ∷ []) ∙ g .long;
                 whole = λ m f.
@@ -144,26 +193,35 @@ module _ (kind : Kind) (t : Six) (u v count : ℕ) (lent : List ℕ) where
                     ∙ (ap (written w (c .«u_count»)) (sym (u-rest .2)) ∙ g .whole m f);
               }
 
-          pub writing-u : {d : Climb} {x : PathRange} {w′ : List ℕ} → d ≡ uMoved c q → x ≡ uRange kind c → w′ ≡ written w (c .«u_count») (x ∷ []) → Writing d w′
+          pub writing-u : {d : Climb} {x : PathRange} {w′ : List ℕ}
+              → d ≡ uMoved c (r .place) → x ≡ uRange kind c → w′ ≡ written w (c .«u_count») (x ∷ []) → Writing d w′
           writing-u {d} {x} {w′} e f i =
               let j : w′ ≡ written w (c .«u_count») (uRange kind c ∷ []) = i ∙ ap (λ (y : PathRange). written w (c .«u_count») (y ∷ [])) f in
-              subst (λ (z : Climb). Writing z w′) (sym e) (subst (Writing (uMoved c q)) (sym j) u-next)
+              subst (λ (z : Climb). Writing z w′) (sym e) (subst (Writing (uMoved c (r .place))) (sym j) u-next)
 
-      module _ (h : c .u .top < c .v .top) where
-        pub v-never : LeftIn t (c .v) (c .«v_count») Unsound → ⊥
-        v-never l = found-lost (sym (range-v-lost kind (chainsLeft (log2 (sizeOf t)) c) (sizeOf t) t c apart h (sym (l (t .order) (t .size)))) ∙ g .left)
+      module _ (h : c .u .top < c .v .top) {r : Reached} (l : LeftIn t (c .v) (c .«v_count») r) where
+        v-unsound : leaveChain (sizeOf t) t (c .v) (c .«v_count») ≡ Unsound → ⊥
+        v-unsound e = found-lost (sym (range-v-lost kind (chainsLeft (log2 (sizeOf t)) c) (sizeOf t) t c apart h e) ∙ g .left)
 
-        module _ (q : Place) (l : LeftIn t (c .v) (c .«v_count») (On q)) where
-          v-left : leaveChain (sizeOf t) t (c .v) (c .«v_count») ≡ On q
-          v-left = sym (l (t .order) (t .size))
+        pub v-never : r .sound ≡ false → ⊥
+        v-never e = v-unsound (left-off t (c .v) (c .«v_count») l (g .going .small) (g .going .v-seat) (g .v-hung) e)
 
-          v-rest : (m : List PathRange) × (ranging (chainsLeft (log2 (sizeOf t)) c) kind (sizeOf t) t (vMoved c q) ≡ found m) × (g .rest ≡ m ++ (vRange kind c ∷ []))
+        module _ (on : r .sound ≡ true) where
+          v-hangs : hangsIn t (r .place) ≡ true
+          v-hangs =
+              always (hangsIn t (r .place))
+              (λ e. v-unsound (left-unhung t (c .v) (c .«v_count») l (g .going .small) (g .going .v-seat) (g .v-hung) on e))
+
+          v-left : leaveChain (sizeOf t) t (c .v) (c .«v_count») ≡ On (r .place)
+          v-left = left-hung t (c .v) (c .«v_count») l (g .going .small) (g .going .v-seat) (g .v-hung) on v-hangs
+
+          v-rest : (m : List PathRange) × (ranging (chainsLeft (log2 (sizeOf t)) c) kind (sizeOf t) t (vMoved c (r .place)) ≡ found m) × (g .rest ≡ m ++ (vRange kind c ∷ []))
           v-rest =
-              behind-found (vRange kind c) (ranging (chainsLeft (log2 (sizeOf t)) c) kind (sizeOf t) t (vMoved c q))
+              behind-found (vRange kind c) (ranging (chainsLeft (log2 (sizeOf t)) c) kind (sizeOf t) t (vMoved c (r .place)))
               (sym (range-v kind (chainsLeft (log2 (sizeOf t)) c) (sizeOf t) t c apart h v-left) ∙ g .left)
 
-          pub v-few : c .«v_count» < (log2 (sizeOf t))
-          v-few = v-fewer (t .parent) (t .depth) (t .head) (t .id) (log2 (sizeOf t)) u v c (g .going) apart h q l
+          v-few : c .«v_count» < (log2 (sizeOf t))
+          v-few = v-fewer (t .parent) (t .depth) (t .head) (t .id) (log2 (sizeOf t)) u v c (g .going) apart h l on
 
           v-length : length (g .rest) ≡ length (v-rest .0) + 1
           v-length = let e = ap length (v-rest .2) in omega (arith, length-append (v-rest .0) (vRange kind c ∷ []))
@@ -173,26 +231,27 @@ module _ (kind : Kind) (t : Six) (u v count : ℕ) (lent : List ℕ) where
 
           pub v-chain : sizeOf t ≤ maxVertices → Chain (c .v .first) (c .v .id + 1)
           v-chain small =
-              let p = g .going .v-placed in
-              let a = g .v-hung (left-parent (sizeOf t) t (c .v) (c .«v_count») v-left) in
-              record { above = a; numbers = record { some = omega (arith, p .first-low); small = omega (arith, p .id-below) } }
+              record {
+                above = left-number t (c .v) (c .«v_count») l on;
+                numbers = record { some = omega (arith, v-facts .first-low); small = omega (arith, v-facts .id-below) };
+              }
 
           pub v-slot : sizeOf t ≤ maxVertices → 3 * count ≤ length lent → {x : PathRange} → x ≡ vRange kind c → Slot w (count - 1 - c .«v_count») x
           v-slot small room e =
               chain-slot kind (c .v .first) (c .v .id + 1) Forward w (count - 1 - c .«v_count») e (v-chain small) (omega (arith, v-room, g .long))
 
-          v-next : Writing (vMoved c q) (written w (count - 1 - c .«v_count») (vRange kind c ∷ []))
+          v-next : Writing (vMoved c (r .place)) (written w (count - 1 - c .«v_count») (vRange kind c ∷ []))
           v-next =
               let few = v-few in
               let e = v-length in
-              let k : suc (chainsLeft (log2 (sizeOf t)) (vMoved c q)) ≡ chainsLeft (log2 (sizeOf t)) c = omega (arith, g .going .u-few) in
+              let k : suc (chainsLeft (log2 (sizeOf t)) (vMoved c (r .place))) ≡ chainsLeft (log2 (sizeOf t)) c = omega (arith, g .going .u-few) in
               let s : count - 1 - c .«v_count» ≡ c .«u_count» + length (v-rest .0) = omega (arith, g .fill) in
               record {
-                going = going-v (t .parent) (t .depth) (t .head) (t .id) (log2 (sizeOf t)) u v c (g .going) apart h q l refl;
+                going = going-v (t .parent) (t .depth) (t .head) (t .id) (log2 (sizeOf t)) u v c (g .going) apart h l on refl;
                 u-hung = g .u-hung;
-                v-hung = left-hung (sizeOf t) t (c .v) (c .«v_count») (omega (arith, g .going .limit)) v-left;
+                v-hung = v-hangs;
                 rest = v-rest .0;
-                left = ap (λ (i : ℕ). ranging i kind (sizeOf t) t (vMoved c q)) k ∙ v-rest .1;
+                left = ap (λ (i : ℕ). ranging i kind (sizeOf t) t (vMoved c (r .place))) k ∙ v-rest .1;
                 fill = omega (arith, g .fill);
                 long = written-length w (count - 1 - c .«v_count») (vRange kind c ∷ []) ∙ g .long;
                 whole = λ m f.
@@ -202,14 +261,14 @@ module _ (kind : Kind) (t : Six) (u v count : ℕ) (lent : List ℕ) where
               }
 
           pub writing-v : {d : Climb} {x : PathRange} {w′ : List ℕ}
-              → d ≡ vMoved c q → x ≡ vRange kind c → w′ ≡ written w (count - 1 - c .«v_count») (x ∷ []) → Writing d w′
+              → d ≡ vMoved c (r .place) → x ≡ vRange kind c → w′ ≡ written w (count - 1 - c .«v_count») (x ∷ []) → Writing d w′
           writing-v {d} {x} {w′} e f i =
               let j : w′ ≡ written w (count - 1 - c .«v_count») (vRange kind c ∷ []) =
               i ∙ ap (λ (y : PathRange). written w (count - 1 - c .«v_count») (y ∷ [])) f in
-              subst (λ (z : Climb). Writing z w′) (sym e) (subst (Writing (vMoved c q)) (sym j) v-next)
+              subst (λ (z : Climb). Writing z w′) (sym e) (subst (Writing (vMoved c (r .place))) (sym j) v-next)
 
     pub writing-ends : sizeOf t ≤ maxVertices → Ends c
-    writing-ends small = record { u = omega (arith, g .going .u-placed .id-below); v = omega (arith, g .going .v-placed .id-below) }
+    writing-ends small = record { u = omega (arith, u-facts .id-below); v = omega (arith, v-facts .id-below) }
 
     -- the last chain is all that is left
     module _ (met : c .u .head ≡ c .v .head) (last : Last) (e : lastList last ≡ lastChain kind c) where

@@ -6,8 +6,10 @@ use lib.ListN.{length, drop}
 use lib.Seq.{sets}
 use Rattle.graph.specs.Limits.{maxVertices}
 use Rattle.tables.specs.Tables.{Six, six}
-use Rattle.climb.specs.Inner.{Climbs}
+use Rattle.climb.specs.Climbing.{climbTo}
+use Rattle.climb.specs.Inner.{Even}
 use Rattle.climb.specs.declared.places.Climb.{Climb}
+use Rattle.climb.specs.declared.places.Climbed.{Climbed}
 use Rattle.ranges.specs.declared.kinds.PathRange.{PathRange}
 use Rattle.ranges.specs.declared.kinds.Kind.{Kind}
 use Rattle.ranges.specs.declared.kinds.Listed.{Listed}
@@ -57,6 +59,16 @@ pub record Slot (w : List ℕ) (slot : ℕ) (r : PathRange) : Type 0 where
 pub record LastSlot (w : List ℕ) (slot : ℕ) (last : Last) : Type 0 where
   pub each : (r : PathRange) → last ≡ One r → Slot w slot r
 
+-- two vertices, and the four tables that a climb reads
+pub record Climbs (P D H I : List ℕ) (u v : ℕ) : Type 0 where
+  pub even : Even P D H I
+  pub small : length P ≤ maxVertices
+  pub u-below : u < length P
+  pub v-below : v < length P
+
+abbrev pub ClimbedBetween : (P D H I : List ℕ) → ℕ → ℕ → Climbed → Type 0
+ClimbedBetween P D H I u v r = (o s : List ℕ) → r ≡ climbTo (length P) (six P D H I o s) u v
+
 -- the ranges of a path are known, with their number
 pub record Known (kind : Kind) (n : ℕ) (t : Six) (u v count : ℕ) : Type 0 where
   pub ranges : List PathRange
@@ -65,7 +77,6 @@ pub record Known (kind : Kind) (n : ℕ) (t : Six) (u v count : ℕ) : Type 0 wh
 
 pub record Writes (kind : Kind) (P D H I : List ℕ) (u v count : ℕ) (w : List ℕ) : Type 0 where
   pub climbs : Climbs P D H I u v
-  pub small : length P ≤ maxVertices
   pub known : (o s : List ℕ) → Known kind (length P) (six P D H I o s) u v count
   pub room : 3 * count ≤ length w
 

@@ -6,10 +6,9 @@ use lib.Dec.{eqb, leb, ltb}
 use Rattle.numbering.specs.Log.{log2}
 use Rattle.tables.specs.Tables.{Six}
 use Rattle.climb.specs.Choice.{pick}
-use Rattle.climb.specs.Sound.{standOn}
+use Rattle.climb.specs.Sound.{standOn, On, Unsound}
 use Rattle.climb.specs.Climbing.{leaveChain, uMoved, vMoved, climbStart}
 use Rattle.climb.specs.declared.places.Climb.{Climb}
-use Rattle.climb.specs.declared.places.Stood.the-variants.{On, Unsound}
 use Rattle.ranges.specs.declared.kinds.Direction.{Direction}
 use Rattle.ranges.specs.declared.kinds.Direction.the-variants.{Forward, Reversed}
 use Rattle.ranges.specs.declared.kinds.PathRange.{PathRange}

@@ -9,10 +9,41 @@ use climb::asked::Verdict;
 use climb::asked::asked;
 use climb::climbing::climb_to_lca;
 use climb::places::Climbed;
+use climb::sound::hangs;
+use climb::sound::reach;
 ghost use Rattle.tables.specs.Tables.{six};
 ghost use Rattle.ranges.specs.Calls.{rangesOf};
-ghost use Rattle.ranges.specs.Inner.{ListedAs};
+ghost use Rattle.ranges.specs.Inner.{ListedAs, Climbs, ClimbedBetween};
 ghost use Rattle.ranges.specs.declared.kinds.Kind.the-variants.{Vertices, Edges, Both};
+
+// Climbs from u and v, with every test of what it reads.
+fn climb_between(
+    parent: &[u32],
+    depth: &[u32],
+    head: &[u32],
+    id: &[u32],
+    u: usize,
+    v: usize,
+) -> Climbed
+    requires { ⌜ Climbs (now parent) (now depth) (now head) (now id) u v ⌝ }
+    ensures { λ r. ⌜ ClimbedBetween (now (parent .entry)) (now (depth .entry)) (now (head .entry)) (now (id .entry)) u v r ⌝ }
+{
+    let p = reach(parent, depth, head, id, u);
+    if !p.sound {
+        return Climbed::Lost;
+    }
+    let q = reach(parent, depth, head, id, v);
+    if !q.sound {
+        return Climbed::Lost;
+    }
+    let Climbed::Met(climb) = climb_to_lca(parent, depth, head, id, p.place, q.place) else {
+        return Climbed::Lost;
+    };
+    if !hangs(parent.len(), depth, id, climb.u) {
+        return Climbed::Lost;
+    }
+    Climbed::Met(climb)
+}
 
 // The ranges of one kind.
 fn path_ranges(
@@ -32,7 +63,7 @@ fn path_ranges(
     if let Verdict::Refused(refusal) = asked(parent, depth, head, id, order, size, &[u, v]) {
         return Listed::Refused(refusal);
     }
-    let Climbed::Met(climb) = climb_to_lca(parent, depth, head, id, u, v) else {
+    let Climbed::Met(climb) = climb_between(parent, depth, head, id, u, v) else {
         return Listed::Refused(Refusal::BadTable);
     };
     let count = climb.u_count + climb.v_count + last_count(last_chain(kind, climb));

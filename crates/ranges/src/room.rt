@@ -1,10 +1,23 @@
 // How many ranges a path can have.
 use climb::answers::Answer;
 use climb::answers::Refusal;
-use climb::log::floor_log2;
 use graph::codes::MAX_VERTICES;
 ghost use mathlib.Core.Path.{_≡_};
+ghost use Rattle.numbering.specs.Log.{log2};
 ghost use Rattle.ranges.specs.Calls.{rangeRoom};
+
+// How often n can be halved before it is 1; 0 of 0.
+fn floor_log2(n: usize) -> usize
+    ensures { λ r. ⌜ r ≡ log2 n ⌝ }
+{
+    let mut left = n;
+    let mut count: usize = 0;
+    while 1 < left {
+        left = left / 2;
+        count += 1;
+    }
+    count
+}
 
 // The number of ranges that is enough for every path among n vertices.
 pub fn range_room(n: usize) -> Answer

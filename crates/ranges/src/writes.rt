@@ -7,8 +7,7 @@ use crate::kinds::Kind;
 use crate::kinds::PathRange;
 use climb::climbing::leave_chain;
 use climb::places::Climb;
-use climb::places::Stood;
-use climb::sound::stand;
+use climb::sound::reach;
 ghost use mathlib.Core.Path.{_≡_};
 ghost use mathlib.Core.List.{[], _∷_};
 ghost use Rattle.ranges.specs.Calls.{directionCode};
@@ -62,28 +61,32 @@ pub(crate) fn write_path(
     requires { ⌜ Writes kind (now parent) (now depth) (now head) (now id) u v count (now ranges) ⌝ }
     ensures { λ r. ⌜ Wrote kind (now (parent .entry)) (now (depth .entry)) (now (head .entry)) (now (id .entry)) u v (now (ranges .entry)) (now (ranges .exit)) ⌝ }
 {
-    let Stood::On(p) = stand(parent, depth, head, id, u) else {
+    let p = reach(parent, depth, head, id, u);
+    if !p.sound {
         return;
-    };
-    let Stood::On(r) = stand(parent, depth, head, id, v) else {
+    }
+    let q = reach(parent, depth, head, id, v);
+    if !q.sound {
         return;
-    };
-    let mut climb = Climb::new(p, r);
+    }
+    let mut climb = Climb::new(p.place, q.place);
     while climb.u.head != climb.v.head {
         if climb.v.top <= climb.u.top {
-            let Stood::On(p) = leave_chain(parent, depth, head, id, climb.u, climb.u_count) else {
+            let next = leave_chain(parent, depth, head, id, climb.u, climb.u_count);
+            if !next.sound {
                 return;
-            };
+            }
             let range = chain_range(kind, climb.u.first, climb.u.id + 1, Direction::Reversed);
             write_range(ranges, climb.u_count, range);
-            climb = climb.u_moved(p);
+            climb = climb.u_moved(next.place);
         } else {
-            let Stood::On(p) = leave_chain(parent, depth, head, id, climb.v, climb.v_count) else {
+            let next = leave_chain(parent, depth, head, id, climb.v, climb.v_count);
+            if !next.sound {
                 return;
-            };
+            }
             let range = chain_range(kind, climb.v.first, climb.v.id + 1, Direction::Forward);
             write_range(ranges, count - 1 - climb.v_count, range);
-            climb = climb.v_moved(p);
+            climb = climb.v_moved(next.place);
         }
     }
     write_last(ranges, climb.u_count, last_chain(kind, climb));

@@ -11,11 +11,10 @@ use Rattle.numbering.proofs.Bounds.{lights-one, lights-log}
 use Rattle.numbering.proofs.Climbs.{chain-gap}
 use Rattle.numbering.proofs.Leaves.{deeper-head-pos}
 use Rattle.tables.specs.Tables.{Six}
-use Rattle.climb.specs.Sound.{parentIn, depthIn, headIn, idIn, placeOf}
+use Rattle.climb.specs.Sound.{parentIn, depthIn, headIn, idIn, placeOf, On}
 use Rattle.climb.specs.Climbing.{leaveChain, uMoved, vMoved}
 use Rattle.climb.specs.declared.places.Place.{Place}
 use Rattle.climb.specs.declared.places.Climb.{Climb}
-use Rattle.climb.specs.declared.places.Stood.the-variants.{On}
 use Rattle.pathlaws.specs.Given.{Given, lightsIn}
 use Rattle.pathlaws.proofs.Standing.{up-below, up-parent, stand-vertex}
 use Rattle.ranges.specs.Ranges.{Found, lost, found, chainRange, lastRange, lastChain, ranging, pathRanges}

@@ -11,7 +11,7 @@ cast-if1 c = search needs
 
 returns : tie.Need-returns
 unfolding noParent
-returns c = rw (eq-eqb _ _ (c .if1 .taken))
+returns c = rw (eq-eqb _ _ (c .before .if1 .taken))
 
 returns-2 : tie.Need-returns-2
 unfolding noParent
@@ -24,14 +24,14 @@ shared-slice-read-if3 : tie.Need-shared-slice-read-if3
 shared-slice-read-if3 c = search needs
 
 cast-if3 : tie.Need-cast-if3
-cast-if3 c = omega (arith, c .shared-slice-known .given (c .before .before .before .args .up))
+cast-if3 c = omega (arith, c .shared-slice-known .given (c .before .before .before .args .p .up))
 
 add-if3 : tie.Need-add-if3
-add-if3 c = omega (arith, c .shared-slice-known .given (c .before .before .before .args .up))
+add-if3 c = omega (arith, c .shared-slice-known .given (c .before .before .before .args .p .up))
 
 returns-3 : tie.Need-returns-3
 unfolding noParent
-returns-3 c = rw (ne-eqb _ _ (c .before .before .before .if1 .left), lt-ltb _ _ (c .before .before .if2 .left), ne-eqb _ _ (c .if3 .taken))
+returns-3 c = rw (ne-eqb _ _ (c .before .before .before .before .if1 .left), lt-ltb _ _ (c .before .before .before .if2 .left), ne-eqb _ _ (c .if3 .taken))
 
 mul-result : tie.Need-mul-result
 mul-result c = search needs
@@ -40,11 +40,11 @@ shared-slice-read-result : tie.Need-shared-slice-read-result
 shared-slice-read-result c = search needs
 
 cast-result : tie.Need-cast-result
-cast-result c = omega (arith, c .shared-slice-known2 .given (c .before .before .before .before .before .args .up))
+cast-result c = omega (arith, c .shared-slice-known2 .given (c .before .before .before .before .before .before .args .p .up))
 
 returns-4 : tie.Need-returns-4
 unfolding noParent
-returns-4 c = rw (ne-eqb _ _ (c .before .before .before .before .if1 .left), lt-ltb _ _ (c .before .before .before .if2 .left), eq-eqb _ _ (c .before .if3 .left))
+returns-4 c = rw (ne-eqb _ _ (c .before .before .before .before .before .before .if1 .left), lt-ltb _ _ (c .before .before .before .before .before .if2 .left), eq-eqb _ _ (c .before .before .if3 .left))
 
 pub hangs-spec : {M : Type 1} → statement M
 hangs-spec =

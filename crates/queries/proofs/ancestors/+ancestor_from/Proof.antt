@@ -73,7 +73,7 @@ ancestor-from-ancestor-from-requires : (t : ℕ) → ancestor-from-lts.Need-ance
   ancestor-from-below t,
   ancestor-from.Post,
 ) (ancestor-from-at t) ancestor-from.Post
-ancestor-from-ancestor-from-requires t c κs = (omega (arith, onward t c .fewer, c .before .before .before .before .before .before .before .before .before .pre .0), record { even = c .before .before .before .before .before .before .before .before .before .pre .1 .even; order = c .before .before .before .before .before .before .before .before .before .pre .1 .order; place = onward t c .place })
+ancestor-from-ancestor-from-requires t c κs = (omega (arith, onward t c .fewer, c .before .before .before .before .before .before .before .before .before .pre .0), record { even = c .before .before .before .before .before .before .before .before .before .pre .1 .even; order = c .before .before .before .before .before .before .before .before .before .pre .1 .order; seat = onward t c .seat })
 
 ancestor-from-returns : (t : ℕ) → ancestor-from-lts.Need-returns (
   one-chain-reads.Asked,

@@ -2,79 +2,84 @@
 use borrow.Author.Needs.{needs}
 use Rattle.queries.proofs.ancestors.one_chain.Statement.{statement}
 use Rattle.queries.proofs.ancestors.one_chain.Tie as tie
+use borrow.Author.Tests.{not-true, not-false}
 use native.Mathlib.Omega.{arith}
 use mathlib.Core.Path.{sym, _∙_}
 use mathlib.Core.List.{[]}
 use Rattle.graph.specs.Limits.{noParent}
-use Rattle.climb.proofs.Soundness.{stood-placed}
-use Rattle.queries.proofs.Rising.{rise-here, rise-too-far, rise-worn, rise-unsound, rise-on, room-worn, room-left}
+use Rattle.climb.proofs.Reaching.{seat-facts, above-seat}
+use Rattle.queries.proofs.Rising.{rise-unhung, rise-here, rise-too-far, rise-high, rise-worn, rise-unsound, rise-on, room-worn, room-left}
 
 sub-steps : tie.Need-sub-steps
-sub-steps c = search needs
+sub-steps c = seat-facts (c .before .before .before .before .before .before .args .parent .now) (c .before .before .before .before .before .before .args .depth .now) (c .before .before .before .before .before .before .args .head .now) (c .before .before .before .before .before .before .args .id .now) (c .before .before .before .before .before .before .args .p) (c .before .before .before .before .before .before .pre .seat) .top-low
+
+hangs-requires : tie.Need-hangs-requires
+hangs-requires c κs = search needs
+
+returns : tie.Need-returns
+returns c = λ s. rise-unhung (c .before .before .before .before .before .before .before .before .before .args .parent .now) (c .before .before .before .before .before .before .before .before .before .args .depth .now) (c .before .before .before .before .before .before .before .before .before .args .head .now) (c .before .before .before .before .before .before .before .before .before .args .id .now) (c .before .before .before .before .before .before .before .before .before .args .order .now) (c .before .before .before .before .before .before .before .before .before .args .p) _ s _ (sym (c .before .hangs .ensures) ∙ not-true _ (c .if2 .taken))
 
 sub-entry-at : tie.Need-sub-entry-at
-sub-entry-at c = search needs
+sub-entry-at c = omega (arith, seat-facts (c .before .before .before .before .before .before .before .before .before .before .args .parent .now) (c .before .before .before .before .before .before .before .before .before .before .args .depth .now) (c .before .before .before .before .before .before .before .before .before .before .args .head .now) (c .before .before .before .before .before .before .before .before .before .before .args .id .now) (c .before .before .before .before .before .before .before .before .before .before .args .p) (c .before .before .before .before .before .before .before .before .before .before .pre .seat))
 
 sub-entry-at-2 : tie.Need-sub-entry-at-2
 sub-entry-at-2 c = search needs
 
 entry-at-requires : tie.Need-entry-at-requires
-entry-at-requires c κs = search needs
-
-returns : tie.Need-returns
-returns c = λ s. c .entry-at .ensures [] [] s ∙ rise-here _ _ (c .before .before .before .before .before .before .before .before .before .before .args .p) _ _ (c .before .before .before .if1 .taken)
-
-cast-if2 : tie.Need-cast-if2
-cast-if2 c = search needs
+entry-at-requires c κs = record { depth = c .before .before .before .before .before .before .before .before .before .before .before .pre .even .depth; id = c .before .before .before .before .before .before .before .before .before .before .before .pre .even .id; order = c .before .before .before .before .before .before .before .before .before .before .before .pre .order; number = omega (arith, seat-facts (c .before .before .before .before .before .before .before .before .before .before .before .args .parent .now) (c .before .before .before .before .before .before .before .before .before .before .before .args .depth .now) (c .before .before .before .before .before .before .before .before .before .before .before .args .head .now) (c .before .before .before .before .before .before .before .before .before .before .before .args .id .now) (c .before .before .before .before .before .before .before .before .before .before .before .args .p) (c .before .before .before .before .before .before .before .before .before .before .before .pre .seat)) }
 
 returns-2 : tie.Need-returns-2
-unfolding noParent
-returns-2 c = λ s. rise-too-far _ _ (c .before .before .before .before .before .before .before .before .args .p) _ (c .before .if1 .left) _ (c .if2 .taken)
+returns-2 c = λ s. c .entry-at .ensures [] [] s ∙ rise-here (c .before .before .before .before .before .before .before .before .before .before .before .before .args .parent .now) (c .before .before .before .before .before .before .before .before .before .before .before .before .args .depth .now) (c .before .before .before .before .before .before .before .before .before .before .before .before .args .head .now) (c .before .before .before .before .before .before .before .before .before .before .before .before .args .id .now) (c .before .before .before .before .before .before .before .before .before .before .before .before .args .order .now) (c .before .before .before .before .before .before .before .before .before .before .before .before .args .p) _ s _ (sym (c .before .before .before .before .hangs .ensures) ∙ not-false _ (c .before .before .before .if2 .left)) (c .before .before .before .before .before .if1 .taken)
+
+cast-if3 : tie.Need-cast-if3
+cast-if3 c = search needs
 
 returns-3 : tie.Need-returns-3
 unfolding noParent
-returns-3 c = λ s. rise-worn _ _ (c .before .before .before .before .before .before .before .before .before .args .p) _ (c .before .before .if1 .left) (c .before .if2 .left) _ (room-worn (c .before .before .before .before .before .before .before .before .before .args .room) (c .if3 .taken))
-
-stand-requires : tie.Need-stand-requires
-unfolding noParent
-stand-requires c κs = record { even = c .before .before .before .before .before .before .before .before .before .pre .even; vertex = c .before .before .before .before .before .before .before .before .before .pre .place .up-below (c .before .if2 .left) }
-
-enum-known-r : tie.Need-enum-known-r
-enum-known-r c = search needs
-
-enum-told : tie.Need-enum-told
-enum-told c = search needs
+returns-3 c = λ s. rise-high (c .before .before .before .before .before .before .before .before .before .before .args .parent .now) (c .before .before .before .before .before .before .before .before .before .before .args .depth .now) (c .before .before .before .before .before .before .before .before .before .before .args .head .now) (c .before .before .before .before .before .before .before .before .before .before .args .id .now) (c .before .before .before .before .before .before .before .before .before .before .args .order .now) (c .before .before .before .before .before .before .before .before .before .before .args .p) _ s (c .before .before .before .if1 .left) (c .before .before .if3 .taken) _ (c .if4 .taken)
 
 returns-4 : tie.Need-returns-4
 unfolding noParent
-returns-4 c = λ s. rise-unsound _ _ (c .before .before .before .before .before .before .before .before .before .before .before .before .args .p) _ (c .before .before .before .before .before .if1 .left) (c .before .before .before .before .if2 .left) _ (room-left (c .before .before .before .before .before .before .before .before .before .before .before .before .args .room) (c .before .before .before .if3 .left)) (sym (c .before .before .stand .ensures _ s) ∙ c .enum-told .given .1)
-
-add-t17 : tie.Need-add-t17
-add-t17 c = search needs
-
-sub-t25 : tie.Need-sub-t25
-sub-t25 c = search needs
+returns-4 c = λ s. rise-too-far (c .before .before .before .before .before .before .before .before .before .before .args .parent .now) (c .before .before .before .before .before .before .before .before .before .before .args .depth .now) (c .before .before .before .before .before .before .before .before .before .before .args .head .now) (c .before .before .before .before .before .before .before .before .before .before .args .id .now) (c .before .before .before .before .before .before .before .before .before .before .args .order .now) (c .before .before .before .before .before .before .before .before .before .before .args .p) _ s (c .before .before .before .if1 .left) (c .before .before .if3 .taken) _ (c .if4 .left)
 
 returns-5 : tie.Need-returns-5
 unfolding noParent
-returns-5 c = record { some-chain = room-left (c .before .before .before .before .before .before .before .before .before .before .before .before .before .args .room) (c .before .before .before .before .if3 .left); fewer = omega (arith, c .before .before .before .before .before .before .if1 .left); place = stood-placed _ _ _ (sym (c .before .before .before .stand .ensures [] []) ∙ c .before .r .given .1); same = λ s. rise-on _ _ (c .before .before .before .before .before .before .before .before .before .before .before .before .before .args .p) _ (c .before .before .before .before .before .before .if1 .left) (c .before .before .before .before .before .if2 .left) _ (room-left (c .before .before .before .before .before .before .before .before .before .before .before .before .before .args .room) (c .before .before .before .before .if3 .left)) (sym (c .before .before .before .stand .ensures _ s) ∙ c .before .r .given .1) }
+returns-5 c = λ s. rise-worn (c .before .before .before .before .before .before .before .before .before .args .parent .now) (c .before .before .before .before .before .before .before .before .before .args .depth .now) (c .before .before .before .before .before .before .before .before .before .args .head .now) (c .before .before .before .before .before .before .before .before .before .args .id .now) (c .before .before .before .before .before .before .before .before .before .args .order .now) (c .before .before .before .before .before .before .before .before .before .args .p) _ s (c .before .before .if1 .left) (c .before .if3 .left) _ (room-worn (c .before .before .before .before .before .before .before .before .before .args .room) (c .if5 .taken))
+
+reach-above-requires : tie.Need-reach-above-requires
+reach-above-requires c κs = record { even = c .before .before .before .before .before .before .before .before .before .pre .even; seat = c .before .before .before .before .before .before .before .before .before .pre .seat }
+
+returns-6 : tie.Need-returns-6
+unfolding noParent
+returns-6 c = λ s. rise-unsound (c .before .before .before .before .before .before .before .before .before .before .before .before .args .parent .now) (c .before .before .before .before .before .before .before .before .before .before .before .before .args .depth .now) (c .before .before .before .before .before .before .before .before .before .before .before .before .args .head .now) (c .before .before .before .before .before .before .before .before .before .before .before .before .args .id .now) (c .before .before .before .before .before .before .before .before .before .before .before .before .args .order .now) (c .before .before .before .before .before .before .before .before .before .before .before .before .args .p) _ s (c .before .before .before .before .before .if1 .left) (c .before .before .before .before .if3 .left) (c .before .before .before .before .before .before .before .before .before .before .before .before .pre .seat) (c .before .before .reach-above .ensures) _ (room-left (c .before .before .before .before .before .before .before .before .before .before .before .before .args .room) (c .before .before .before .if5 .left)) (not-true _ (c .if6 .taken))
+
+add-t22 : tie.Need-add-t22
+add-t22 c = search needs
+
+sub-t32 : tie.Need-sub-t32
+sub-t32 c = search needs
+
+returns-7 : tie.Need-returns-7
+unfolding noParent
+returns-7 c = record { some-chain = room-left (c .before .before .before .before .before .before .before .before .before .before .before .before .before .args .room) (c .before .before .before .before .if5 .left); fewer = omega (arith, c .before .before .before .before .before .before .if1 .left); seat = above-seat (c .before .before .before .before .before .before .before .before .before .before .before .before .before .args .parent .now) (c .before .before .before .before .before .before .before .before .before .before .before .before .before .args .depth .now) (c .before .before .before .before .before .before .before .before .before .before .before .before .before .args .head .now) (c .before .before .before .before .before .before .before .before .before .before .before .before .before .args .id .now) (c .before .before .before .before .before .before .before .before .before .before .before .before .before .args .p) (c .before .before .before .before .before .before .before .before .before .before .before .before .before .pre .seat) (c .before .before .before .reach-above .ensures) (not-false _ (c .before .if6 .left)); same = λ s. rise-on (c .before .before .before .before .before .before .before .before .before .before .before .before .before .args .parent .now) (c .before .before .before .before .before .before .before .before .before .before .before .before .before .args .depth .now) (c .before .before .before .before .before .before .before .before .before .before .before .before .before .args .head .now) (c .before .before .before .before .before .before .before .before .before .before .before .before .before .args .id .now) (c .before .before .before .before .before .before .before .before .before .before .before .before .before .args .order .now) (c .before .before .before .before .before .before .before .before .before .before .before .before .before .args .p) _ s (c .before .before .before .before .before .before .if1 .left) (c .before .before .before .before .before .if3 .left) (c .before .before .before .before .before .before .before .before .before .before .before .before .before .pre .seat) (c .before .before .before .reach-above .ensures) _ (room-left (c .before .before .before .before .before .before .before .before .before .before .before .before .before .args .room) (c .before .before .before .before .if5 .left)) (not-false _ (c .before .if6 .left)) }
 
 pub one-chain-spec : {M : Type 1} → statement M
 one-chain-spec =
     tie.close
     (tie.spec
     sub-steps
+    hangs-requires
+    returns
     sub-entry-at
     sub-entry-at-2
     entry-at-requires
-    returns
-    cast-if2
     returns-2
+    cast-if3
     returns-3
-    stand-requires
-    enum-known-r
-    enum-told
     returns-4
-    add-t17
-    sub-t25
-    returns-5)
+    returns-5
+    reach-above-requires
+    returns-6
+    add-t22
+    sub-t32
+    returns-7)

@@ -1,23 +1,27 @@
--- `between::jump` meets its contract: it stands on u and v and jumps between their places.
+-- `between::jump` meets its contract: both vertices are reached, and the jump goes from the one place to the other.
 use borrow.Author.Needs.{needs}
 use Rattle.queries.proofs.between.jump.Statement.{statement}
 use Rattle.queries.proofs.between.jump.Tie as tie
+use borrow.Author.Tests.{not-true, not-false}
 use mathlib.Core.Path.{sym, _∙_}
 use mathlib.Core.List.{[], _∷_}
 use Rattle.tables.specs.Tables.{Six, six}
 use Rattle.climb.specs.declared.answers.Answer.the-variants.{Refused}
-use Rattle.climb.proofs.Passed.{Passed, verdict-passed, verdict-refused, answered, lengths, first-below, others}
-use Rattle.climb.proofs.Climbs.{climb-off-u, climb-off-v}
-use Rattle.queries.proofs.Answering.{jump-lost}
+use Rattle.climb.proofs.Passed.{Passed, verdict-passed, verdict-refused, answered, lengths, few-parent, first-below, others}
+use Rattle.climb.proofs.Climbs.{climb-off-u, climb-none-v}
+use Rattle.climb.proofs.Reaching.{reached-off, reached-vertex}
 use Rattle.climb.proofs.Handed.{climbs-from}
-use Rattle.queries.proofs.Jumping.{jumped-there}
+use Rattle.queries.proofs.Answering.{jump-lost, jump-there}
 
 abbrev lent : tie.Start → Six
 lent b = six (b .args .parent .now) (b .args .depth .now) (b .args .head .now) (b .args .id .now) (b .args .order .now) (b .args .size .now)
 
+abbrev start : tie.After-enum-told → tie.Start
+start c = c .before .before .before .before .before .before .before .before .before .before
+
 -- the tests before the query were passed
-passed : (c : tie.After-enum-told) → Passed (lent (c .before .before .before .before .before .before .before .before .before .before)) (c .before .before .before .before .before .before .before .before .before .before .args .u ∷ c .before .before .before .before .before .before .before .before .before .before .args .v ∷ [])
-passed c = verdict-passed (lent (c .before .before .before .before .before .before .before .before .before .before)) (c .before .before .before .before .before .before .before .before .before .before .args .u ∷ c .before .before .before .before .before .before .before .before .before .before .args .v ∷ []) (sym (c .before .before .asked .ensures) ∙ c .enum-told .given .1)
+passed : (c : tie.After-enum-told) → Passed (lent (start c)) (start c .args .u ∷ start c .args .v ∷ [])
+passed c = verdict-passed (lent (start c)) (start c .args .u ∷ start c .args .v ∷ []) (sym (c .before .before .asked .ensures) ∙ c .enum-told .given .1)
 
 slice-aggregate-asked : tie.Need-slice-aggregate-asked
 slice-aggregate-asked c = search needs
@@ -34,35 +38,23 @@ returns c = verdict-refused (lent (c .before .before .before .before .before .be
 enum-told : tie.Need-enum-told
 enum-told c = search needs
 
-stand-requires : tie.Need-stand-requires
-stand-requires c κs = record { even = lengths (passed c) .even; vertex = first-below (passed c) }
-
-enum-known-p : tie.Need-enum-known-p
-enum-known-p c = search needs
-
-enum-told-2 : tie.Need-enum-told-2
-enum-told-2 c = search needs
+reach-requires : tie.Need-reach-requires
+reach-requires c κs = record { even = lengths (passed c) .even; vertex = first-below (passed c) }
 
 returns-2 : tie.Need-returns-2
-returns-2 c = answered (passed (c .before .before .before)) Refused (jump-lost _ _ _ _ _ (sym (climb-off-u _ _ _ _ (sym (c .before .before .stand .ensures _ _) ∙ c .enum-told2 .given .1))))
+returns-2 c = answered (passed (c .before .before .before)) Refused (jump-lost _ _ _ _ _ (sym (climb-off-u _ _ _ _ (reached-off (c .before .before .before .before .before .before .before .before .before .before .before .before .before .args .parent .now) (c .before .before .before .before .before .before .before .before .before .before .before .before .before .args .depth .now) (c .before .before .before .before .before .before .before .before .before .before .before .before .before .args .head .now) (c .before .before .before .before .before .before .before .before .before .before .before .before .before .args .id .now) (c .before .before .reach .ensures) (not-true _ (c .if1 .taken)) _ _))))
 
-stand-requires-2 : tie.Need-stand-requires-2
-stand-requires-2 c κs = record { even = lengths (passed (c .before .before .before .before)) .even; vertex = first-below (others (passed (c .before .before .before .before))) }
-
-enum-known-q : tie.Need-enum-known-q
-enum-known-q c = search needs
-
-enum-told-3 : tie.Need-enum-told-3
-enum-told-3 c = search needs
+reach-requires-2 : tie.Need-reach-requires-2
+reach-requires-2 c κs = record { even = lengths (passed (c .before .before .before)) .even; vertex = first-below (others (passed (c .before .before .before))) }
 
 returns-3 : tie.Need-returns-3
-returns-3 c = answered (passed (c .before .before .before .before .before .before .before)) Refused (jump-lost _ _ _ _ _ (sym (climb-off-v _ _ _ _ (sym (c .before .before .before .before .before .before .stand .ensures _ _) ∙ c .before .before .before .before .p .given .1) (sym (c .before .before .stand2 .ensures _ _) ∙ c .enum-told3 .given .1))))
+returns-3 c = answered (passed (c .before .before .before .before .before .before)) Refused (jump-lost _ _ _ _ _ (sym (climb-none-v _ _ _ _ (reached-off (c .before .before .before .before .before .before .before .before .before .before .before .before .before .before .before .before .args .parent .now) (c .before .before .before .before .before .before .before .before .before .before .before .before .before .before .before .before .args .depth .now) (c .before .before .before .before .before .before .before .before .before .before .before .before .before .before .before .before .args .head .now) (c .before .before .before .before .before .before .before .before .before .before .before .before .before .before .before .before .args .id .now) (c .before .before .reach2 .ensures) (not-true _ (c .if2 .taken)) _ _))))
 
 jump-from-requires : tie.Need-jump-from-requires
-jump-from-requires c κs = record { climbs = climbs-from _ _ _ _ _ _ (c .before .before .before .before .before .before .before .stand .ensures) (c .before .before .before .before .before .p .given .1) (c .before .before .before .stand2 .ensures) (c .before .q .given .1) (lengths (passed (c .before .before .before .before .before .before .before .before)) .even); order = lengths (passed (c .before .before .before .before .before .before .before .before)) .order }
+jump-from-requires c κs = record { climbs = climbs-from (c .before .before .before .before .before .before .before .before .before .before .before .before .before .before .before .before .args .parent .now) (c .before .before .before .before .before .before .before .before .before .before .before .before .before .before .before .before .args .depth .now) (c .before .before .before .before .before .before .before .before .before .before .before .before .before .before .before .before .args .head .now) (c .before .before .before .before .before .before .before .before .before .before .before .before .before .before .before .before .args .id .now) (c .before .before .before .before .before .reach .ensures) (not-false _ (c .before .before .before .if1 .left)) (c .before .before .reach2 .ensures) (not-false _ (c .if2 .left)) (lengths (passed (c .before .before .before .before .before .before)) .even) (few-parent (lengths (passed (c .before .before .before .before .before .before)) .few)); order = lengths (passed (c .before .before .before .before .before .before)) .order }
 
 returns-4 : tie.Need-returns-4
-returns-4 c = answered (passed (c .before .before .before .before .before .before .before .before .before)) Refused (c .jump-from .ensures (c .before .before .before .before .before .before .before .before .before .before .before .before .before .before .before .before .before .before .before .args .size .now) ∙ jumped-there _ (lent (c .before .before .before .before .before .before .before .before .before .before .before .before .before .before .before .before .before .before .before)) _ _ _ (sym (c .before .before .before .before .before .before .before .before .stand .ensures _ _) ∙ c .before .before .before .before .before .before .p .given .1) (sym (c .before .before .before .before .stand2 .ensures _ _) ∙ c .before .before .q .given .1))
+returns-4 c = answered (passed (c .before .before .before .before .before .before .before)) Refused (c .jump-from .ensures _ ∙ jump-there _ _ _ (reached-vertex (c .before .before .before .before .before .before .before .before .before .before .before .before .before .before .before .before .before .args .parent .now) (c .before .before .before .before .before .before .before .before .before .before .before .before .before .before .before .before .before .args .depth .now) (c .before .before .before .before .before .before .before .before .before .before .before .before .before .before .before .before .before .args .head .now) (c .before .before .before .before .before .before .before .before .before .before .before .before .before .before .before .before .before .args .id .now) (c .before .before .before .before .before .before .reach .ensures) (not-false _ (c .before .before .before .before .if1 .left))) (reached-vertex (c .before .before .before .before .before .before .before .before .before .before .before .before .before .before .before .before .before .args .parent .now) (c .before .before .before .before .before .before .before .before .before .before .before .before .before .before .before .before .before .args .depth .now) (c .before .before .before .before .before .before .before .before .before .before .before .before .before .before .before .before .before .args .head .now) (c .before .before .before .before .before .before .before .before .before .before .before .before .before .before .before .before .before .args .id .now) (c .before .before .before .reach2 .ensures) (not-false _ (c .before .if2 .left))))
 
 pub jump-spec : {M : Type 1} → statement M
 jump-spec =
@@ -73,13 +65,9 @@ jump-spec =
     enum-known-refusal
     returns
     enum-told
-    stand-requires
-    enum-known-p
-    enum-told-2
+    reach-requires
     returns-2
-    stand-requires-2
-    enum-known-q
-    enum-told-3
+    reach-requires-2
     returns-3
     jump-from-requires
     returns-4)

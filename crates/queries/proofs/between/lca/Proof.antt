@@ -1,23 +1,29 @@
--- `between::lca` meets its contract: three climbs, and the last deepest of their ancestors.
+-- `between::lca` meets its contract: each way out is a test that fails, and else the last deepest of where two of the three meet is chosen.
 use borrow.Author.Needs.{needs}
 use Rattle.queries.proofs.between.lca.Statement.{statement}
 use Rattle.queries.proofs.between.lca.Tie as tie
-use mathlib.Core.Path.{sym, ap, _∙_}
+use borrow.Author.Tests.{not-true, not-false}
+use mathlib.Core.Path.{sym, _∙_}
 use mathlib.Core.List.{[], _∷_}
 use Rattle.tables.specs.Tables.{Six, six}
-use Rattle.queries.specs.Inner.{endOf}
 use Rattle.climb.specs.declared.answers.Answer.the-variants.{Refused}
-use Rattle.climb.proofs.Passed.{Passed, verdict-passed, verdict-refused, answered, lengths, first-below, others}
-use Rattle.climb.proofs.Climbs.{climb-off-u, climb-off-v}
-use Rattle.queries.proofs.Answering.{lca-off-r, lca-lost-1, lca-lost-2, lca-lost-3, lca-met, ended-is}
+use mathlib.Core.Path.{refl, ap}
+use Rattle.climb.proofs.Passed.{Passed, verdict-passed, verdict-refused, answered, lengths, few-parent, first-below, others}
+use Rattle.climb.proofs.Climbs.{climb-off-u, climb-none-v}
+use Rattle.climb.proofs.Reaching.{reached-off, reached-vertex}
 use Rattle.climb.proofs.Handed.{climbs-from}
+use Rattle.queries.specs.Inner.{endOf}
+use Rattle.queries.proofs.Answering.{lca-off-r, lca-lost-1, lca-lost-2, lca-lost-3, lca-met, ended-there}
 
 abbrev lent : tie.Start → Six
 lent b = six (b .args .parent .now) (b .args .depth .now) (b .args .head .now) (b .args .id .now) (b .args .order .now) (b .args .size .now)
 
+abbrev start : tie.After-enum-told → tie.Start
+start c = c .before .before .before .before .before .before .before .before .before .before
+
 -- the tests before the query were passed
-passed : (c : tie.After-enum-told) → Passed (lent (c .before .before .before .before .before .before .before .before .before .before)) (c .before .before .before .before .before .before .before .before .before .before .args .r ∷ c .before .before .before .before .before .before .before .before .before .before .args .u ∷ c .before .before .before .before .before .before .before .before .before .before .args .v ∷ [])
-passed c = verdict-passed (lent (c .before .before .before .before .before .before .before .before .before .before)) (c .before .before .before .before .before .before .before .before .before .before .args .r ∷ c .before .before .before .before .before .before .before .before .before .before .args .u ∷ c .before .before .before .before .before .before .before .before .before .before .args .v ∷ []) (sym (c .before .before .asked .ensures) ∙ c .enum-told .given .1)
+passed : (c : tie.After-enum-told) → Passed (lent (start c)) (start c .args .r ∷ start c .args .u ∷ start c .args .v ∷ [])
+passed c = verdict-passed (lent (start c)) (start c .args .r ∷ start c .args .u ∷ start c .args .v ∷ []) (sym (c .before .before .asked .ensures) ∙ c .enum-told .given .1)
 
 slice-aggregate-asked : tie.Need-slice-aggregate-asked
 slice-aggregate-asked c = search needs
@@ -34,95 +40,65 @@ returns c = verdict-refused (lent (c .before .before .before .before .before .be
 enum-told : tie.Need-enum-told
 enum-told c = search needs
 
-stand-requires : tie.Need-stand-requires
-stand-requires c κs = record { even = lengths (passed c) .even; vertex = first-below (passed c) }
-
-enum-known-s : tie.Need-enum-known-s
-enum-known-s c = search needs
-
-enum-told-2 : tie.Need-enum-told-2
-enum-told-2 c = search needs
+reach-requires : tie.Need-reach-requires
+reach-requires c κs = record { even = lengths (passed c) .even; vertex = first-below (passed c) }
 
 returns-2 : tie.Need-returns-2
-returns-2 c = answered (passed (c .before .before .before)) Refused (lca-off-r _ _ _ _ _ (sym (c .before .before .stand .ensures _ _) ∙ c .enum-told2 .given .1))
+returns-2 c = answered (passed (c .before .before .before)) Refused (lca-off-r _ _ _ _ _ (reached-off (c .before .before .before .before .before .before .before .before .before .before .before .before .before .args .parent .now) (c .before .before .before .before .before .before .before .before .before .before .before .before .before .args .depth .now) (c .before .before .before .before .before .before .before .before .before .before .before .before .before .args .head .now) (c .before .before .before .before .before .before .before .before .before .before .before .before .before .args .id .now) (c .before .before .reach .ensures) (not-true _ (c .if1 .taken)) _ _))
 
-stand-requires-2 : tie.Need-stand-requires-2
-stand-requires-2 c κs = record { even = lengths (passed (c .before .before .before .before)) .even; vertex = first-below (others (passed (c .before .before .before .before))) }
-
-enum-known-p : tie.Need-enum-known-p
-enum-known-p c = search needs
-
-enum-told-3 : tie.Need-enum-told-3
-enum-told-3 c = search needs
+reach-requires-2 : tie.Need-reach-requires-2
+reach-requires-2 c κs = record { even = lengths (passed (c .before .before .before)) .even; vertex = first-below (others (passed (c .before .before .before))) }
 
 returns-3 : tie.Need-returns-3
-returns-3 c = answered (passed (c .before .before .before .before .before .before .before)) Refused (lca-lost-1 _ _ _ _ _ (ap endOf (sym (climb-off-u _ _ _ _ (sym (c .before .before .stand2 .ensures _ _) ∙ c .enum-told3 .given .1)))))
+returns-3 c = answered (passed (c .before .before .before .before .before .before)) Refused (lca-lost-1 _ _ _ _ _ (ap endOf (sym (climb-off-u _ _ _ _ (reached-off (c .before .before .before .before .before .before .before .before .before .before .before .before .before .before .before .before .args .parent .now) (c .before .before .before .before .before .before .before .before .before .before .before .before .before .before .before .before .args .depth .now) (c .before .before .before .before .before .before .before .before .before .before .before .before .before .before .before .before .args .head .now) (c .before .before .before .before .before .before .before .before .before .before .before .before .before .before .before .before .args .id .now) (c .before .before .reach2 .ensures) (not-true _ (c .if2 .taken)) _ _)))))
 
-stand-requires-3 : tie.Need-stand-requires-3
-stand-requires-3 c κs = record { even = lengths (passed (c .before .before .before .before .before .before .before .before)) .even; vertex = first-below (others (others (passed (c .before .before .before .before .before .before .before .before)))) }
-
-enum-known-q : tie.Need-enum-known-q
-enum-known-q c = search needs
-
-enum-told-4 : tie.Need-enum-told-4
-enum-told-4 c = search needs
+reach-requires-3 : tie.Need-reach-requires-3
+reach-requires-3 c κs = record { even = lengths (passed (c .before .before .before .before .before .before)) .even; vertex = first-below (others (others (passed (c .before .before .before .before .before .before)))) }
 
 returns-4 : tie.Need-returns-4
-returns-4 c = answered (passed (c .before .before .before .before .before .before .before .before .before .before .before)) Refused (lca-lost-1 _ _ _ _ _ (ap endOf (sym (climb-off-v _ _ _ _ (sym (c .before .before .before .before .before .before .stand2 .ensures _ _) ∙ c .before .before .before .before .p .given .1) (sym (c .before .before .stand3 .ensures _ _) ∙ c .enum-told4 .given .1)))))
+returns-4 c = answered (passed (c .before .before .before .before .before .before .before .before .before)) Refused (lca-lost-1 _ _ _ _ _ (ap endOf (sym (climb-none-v _ _ _ _ (reached-off (c .before .before .before .before .before .before .before .before .before .before .before .before .before .before .before .before .before .before .before .args .parent .now) (c .before .before .before .before .before .before .before .before .before .before .before .before .before .before .before .before .before .before .before .args .depth .now) (c .before .before .before .before .before .before .before .before .before .before .before .before .before .before .before .before .before .before .before .args .head .now) (c .before .before .before .before .before .before .before .before .before .before .before .before .before .before .before .before .before .before .before .args .id .now) (c .before .before .reach3 .ensures) (not-true _ (c .if3 .taken)) _ _)))))
 
 meeting-requires : tie.Need-meeting-requires
-meeting-requires c κs = climbs-from _ _ _ _ _ _ (c .before .before .before .before .before .before .before .stand2 .ensures) (c .before .before .before .before .before .p .given .1) (c .before .before .before .stand3 .ensures) (c .before .q .given .1) (lengths (passed (c .before .before .before .before .before .before .before .before .before .before .before .before)) .even)
+meeting-requires c κs = climbs-from (c .before .before .before .before .before .before .before .before .before .before .before .before .before .before .before .before .before .before .before .args .parent .now) (c .before .before .before .before .before .before .before .before .before .before .before .before .before .before .before .before .before .before .before .args .depth .now) (c .before .before .before .before .before .before .before .before .before .before .before .before .before .before .before .before .before .before .before .args .head .now) (c .before .before .before .before .before .before .before .before .before .before .before .before .before .before .before .before .before .before .before .args .id .now) (c .before .before .before .before .before .reach2 .ensures) (not-false _ (c .before .before .before .if2 .left)) (c .before .before .reach3 .ensures) (not-false _ (c .if3 .left)) (lengths (passed (c .before .before .before .before .before .before .before .before .before)) .even) (few-parent (lengths (passed (c .before .before .before .before .before .before .before .before .before)) .few))
 
 enum-known-a : tie.Need-enum-known-a
 enum-known-a c = search needs
 
-enum-told-5 : tie.Need-enum-told-5
-enum-told-5 c = search needs
+enum-told-2 : tie.Need-enum-told-2
+enum-told-2 c = search needs
 
 returns-5 : tie.Need-returns-5
-returns-5 c = answered (passed (c .before .before .before .before .before .before .before .before .before .before .before .before .before .before .before)) Refused (lca-lost-1 _ (lent (c .before .before .before .before .before .before .before .before .before .before .before .before .before .before .before .before .before .before .before .before .before .before .before .before .before)) (c .before .before .before .before .before .before .before .before .before .before .before .before .before .before .before .before .before .before .before .before .before .before .before .before .before .args .r) (c .before .before .before .before .before .before .before .before .before .before .before .before .before .before .before .before .before .before .before .before .before .before .before .before .before .args .u) (c .before .before .before .before .before .before .before .before .before .before .before .before .before .before .before .before .before .before .before .before .before .before .before .before .before .args .v) (ended-is (lent (c .before .before .before .before .before .before .before .before .before .before .before .before .before .before .before .before .before .before .before .before .before .before .before .before .before)) (c .before .before .before .before .before .before .before .before .before .before .before .before .before .before .before .before .before .before .before .before .before .before .before .before .before .args .u) (c .before .before .before .before .before .before .before .before .before .before .before .before .before .before .before .before .before .before .before .before .before .before .before .before .before .args .v) (c .before .before .before .before .before .before .before .before .before .before .stand2 .ensures) (c .before .before .before .before .before .before .before .before .p .given .1) (c .before .before .before .before .before .before .stand3 .ensures) (c .before .before .before .before .q .given .1) (c .before .before .meeting .ensures) (c .enum-told5 .given .1)))
+returns-5 c = answered (passed (c .before .before .before .before .before .before .before .before .before .before .before .before)) Refused (lca-lost-1 _ _ _ _ _ (sym (ended-there _ _ (reached-vertex (c .before .before .before .before .before .before .before .before .before .before .before .before .before .before .before .before .before .before .before .before .before .before .args .parent .now) (c .before .before .before .before .before .before .before .before .before .before .before .before .before .before .before .before .before .before .before .before .before .before .args .depth .now) (c .before .before .before .before .before .before .before .before .before .before .before .before .before .before .before .before .before .before .before .before .before .before .args .head .now) (c .before .before .before .before .before .before .before .before .before .before .before .before .before .before .before .before .before .before .before .before .before .before .args .id .now) (c .before .before .before .before .before .before .before .before .reach2 .ensures) (not-false _ (c .before .before .before .before .before .before .if2 .left))) (reached-vertex (c .before .before .before .before .before .before .before .before .before .before .before .before .before .before .before .before .before .before .before .before .before .before .args .parent .now) (c .before .before .before .before .before .before .before .before .before .before .before .before .before .before .before .before .before .before .before .before .before .before .args .depth .now) (c .before .before .before .before .before .before .before .before .before .before .before .before .before .before .before .before .before .before .before .before .before .before .args .head .now) (c .before .before .before .before .before .before .before .before .before .before .before .before .before .before .before .before .before .before .before .before .before .before .args .id .now) (c .before .before .before .before .before .reach3 .ensures) (not-false _ (c .before .before .before .if3 .left)))) ∙ (sym (c .before .before .meeting .ensures _ _) ∙ c .enum-told2 .given .1)))
 
 meeting-requires-2 : tie.Need-meeting-requires-2
-meeting-requires-2 c κs = climbs-from _ _ _ _ _ _ (c .before .before .before .before .before .before .before .before .before .before .before .before .before .before .before .stand .ensures) (c .before .before .before .before .before .before .before .before .before .before .before .before .before .s .given .1) (c .before .before .before .before .before .before .before .before .before .before .before .stand2 .ensures) (c .before .before .before .before .before .before .before .before .before .p .given .1) (lengths (passed (c .before .before .before .before .before .before .before .before .before .before .before .before .before .before .before .before)) .even)
+meeting-requires-2 c κs = climbs-from (c .before .before .before .before .before .before .before .before .before .before .before .before .before .before .before .before .before .before .before .before .before .before .before .args .parent .now) (c .before .before .before .before .before .before .before .before .before .before .before .before .before .before .before .before .before .before .before .before .before .before .before .args .depth .now) (c .before .before .before .before .before .before .before .before .before .before .before .before .before .before .before .before .before .before .before .before .before .before .before .args .head .now) (c .before .before .before .before .before .before .before .before .before .before .before .before .before .before .before .before .before .before .before .before .before .before .before .args .id .now) (c .before .before .before .before .before .before .before .before .before .before .before .before .reach .ensures) (not-false _ (c .before .before .before .before .before .before .before .before .before .before .if1 .left)) (c .before .before .before .before .before .before .before .before .before .reach2 .ensures) (not-false _ (c .before .before .before .before .before .before .before .if2 .left)) (lengths (passed (c .before .before .before .before .before .before .before .before .before .before .before .before .before)) .even) (few-parent (lengths (passed (c .before .before .before .before .before .before .before .before .before .before .before .before .before)) .few))
 
 enum-known-b : tie.Need-enum-known-b
 enum-known-b c = search needs
 
-enum-told-6 : tie.Need-enum-told-6
-enum-told-6 c = search needs
+enum-told-3 : tie.Need-enum-told-3
+enum-told-3 c = search needs
 
 returns-6 : tie.Need-returns-6
-returns-6 c = answered (passed (c .before .before .before .before .before .before .before .before .before .before .before .before .before .before .before .before .before .before .before)) Refused (lca-lost-2 _ (lent (c .before .before .before .before .before .before .before .before .before .before .before .before .before .before .before .before .before .before .before .before .before .before .before .before .before .before .before .before .before)) (c .before .before .before .before .before .before .before .before .before .before .before .before .before .before .before .before .before .before .before .before .before .before .before .before .before .before .before .before .before .args .r) (c .before .before .before .before .before .before .before .before .before .before .before .before .before .before .before .before .before .before .before .before .before .before .before .before .before .before .before .before .before .args .u) (c .before .before .before .before .before .before .before .before .before .before .before .before .before .before .before .before .before .before .before .before .before .before .before .before .before .before .before .before .before .args .v) (ended-is (lent (c .before .before .before .before .before .before .before .before .before .before .before .before .before .before .before .before .before .before .before .before .before .before .before .before .before .before .before .before .before)) (c .before .before .before .before .before .before .before .before .before .before .before .before .before .before .before .before .before .before .before .before .before .before .before .before .before .before .before .before .before .args .u) (c .before .before .before .before .before .before .before .before .before .before .before .before .before .before .before .before .before .before .before .before .before .before .before .before .before .before .before .before .before .args .v) (c .before .before .before .before .before .before .before .before .before .before .before .before .before .before .stand2 .ensures) (c .before .before .before .before .before .before .before .before .before .before .before .before .p .given .1) (c .before .before .before .before .before .before .before .before .before .before .stand3 .ensures) (c .before .before .before .before .before .before .before .before .q .given .1) (c .before .before .before .before .before .before .meeting .ensures) (c .before .before .before .before .a .given .1)) (ended-is (lent (c .before .before .before .before .before .before .before .before .before .before .before .before .before .before .before .before .before .before .before .before .before .before .before .before .before .before .before .before .before)) (c .before .before .before .before .before .before .before .before .before .before .before .before .before .before .before .before .before .before .before .before .before .before .before .before .before .before .before .before .before .args .r) (c .before .before .before .before .before .before .before .before .before .before .before .before .before .before .before .before .before .before .before .before .before .before .before .before .before .before .before .before .before .args .u) (c .before .before .before .before .before .before .before .before .before .before .before .before .before .before .before .before .before .before .stand .ensures) (c .before .before .before .before .before .before .before .before .before .before .before .before .before .before .before .before .s .given .1) (c .before .before .before .before .before .before .before .before .before .before .before .before .before .before .stand2 .ensures) (c .before .before .before .before .before .before .before .before .before .before .before .before .p .given .1) (c .before .before .meeting2 .ensures) (c .enum-told6 .given .1)))
+returns-6 c = answered (passed (c .before .before .before .before .before .before .before .before .before .before .before .before .before .before .before .before)) Refused (lca-lost-2 _ _ _ _ _ (sym (ended-there _ _ (reached-vertex (c .before .before .before .before .before .before .before .before .before .before .before .before .before .before .before .before .before .before .before .before .before .before .before .before .before .before .args .parent .now) (c .before .before .before .before .before .before .before .before .before .before .before .before .before .before .before .before .before .before .before .before .before .before .before .before .before .before .args .depth .now) (c .before .before .before .before .before .before .before .before .before .before .before .before .before .before .before .before .before .before .before .before .before .before .before .before .before .before .args .head .now) (c .before .before .before .before .before .before .before .before .before .before .before .before .before .before .before .before .before .before .before .before .before .before .before .before .before .before .args .id .now) (c .before .before .before .before .before .before .before .before .before .before .before .before .reach2 .ensures) (not-false _ (c .before .before .before .before .before .before .before .before .before .before .if2 .left))) (reached-vertex (c .before .before .before .before .before .before .before .before .before .before .before .before .before .before .before .before .before .before .before .before .before .before .before .before .before .before .args .parent .now) (c .before .before .before .before .before .before .before .before .before .before .before .before .before .before .before .before .before .before .before .before .before .before .before .before .before .before .args .depth .now) (c .before .before .before .before .before .before .before .before .before .before .before .before .before .before .before .before .before .before .before .before .before .before .before .before .before .before .args .head .now) (c .before .before .before .before .before .before .before .before .before .before .before .before .before .before .before .before .before .before .before .before .before .before .before .before .before .before .args .id .now) (c .before .before .before .before .before .before .before .before .before .reach3 .ensures) (not-false _ (c .before .before .before .before .before .before .before .if3 .left)))) ∙ (sym (c .before .before .before .before .before .before .meeting .ensures _ _) ∙ c .before .before .before .before .a .given .1)) (sym (ended-there _ _ (reached-vertex (c .before .before .before .before .before .before .before .before .before .before .before .before .before .before .before .before .before .before .before .before .before .before .before .before .before .before .args .parent .now) (c .before .before .before .before .before .before .before .before .before .before .before .before .before .before .before .before .before .before .before .before .before .before .before .before .before .before .args .depth .now) (c .before .before .before .before .before .before .before .before .before .before .before .before .before .before .before .before .before .before .before .before .before .before .before .before .before .before .args .head .now) (c .before .before .before .before .before .before .before .before .before .before .before .before .before .before .before .before .before .before .before .before .before .before .before .before .before .before .args .id .now) (c .before .before .before .before .before .before .before .before .before .before .before .before .before .before .before .reach .ensures) (not-false _ (c .before .before .before .before .before .before .before .before .before .before .before .before .before .if1 .left))) (reached-vertex (c .before .before .before .before .before .before .before .before .before .before .before .before .before .before .before .before .before .before .before .before .before .before .before .before .before .before .args .parent .now) (c .before .before .before .before .before .before .before .before .before .before .before .before .before .before .before .before .before .before .before .before .before .before .before .before .before .before .args .depth .now) (c .before .before .before .before .before .before .before .before .before .before .before .before .before .before .before .before .before .before .before .before .before .before .before .before .before .before .args .head .now) (c .before .before .before .before .before .before .before .before .before .before .before .before .before .before .before .before .before .before .before .before .before .before .before .before .before .before .args .id .now) (c .before .before .before .before .before .before .before .before .before .before .before .before .reach2 .ensures) (not-false _ (c .before .before .before .before .before .before .before .before .before .before .if2 .left)))) ∙ (sym (c .before .before .meeting2 .ensures _ _) ∙ c .enum-told3 .given .1)))
 
 meeting-requires-3 : tie.Need-meeting-requires-3
-meeting-requires-3 c κs = climbs-from _ _ _ _ _ _ (c .before .before .before .before .before .before .before .before .before .before .before .before .before .before .before .before .before .before .before .stand .ensures) (c .before .before .before .before .before .before .before .before .before .before .before .before .before .before .before .before .before .s .given .1) (c .before .before .before .before .before .before .before .before .before .before .before .stand3 .ensures) (c .before .before .before .before .before .before .before .before .before .q .given .1) (lengths (passed (c .before .before .before .before .before .before .before .before .before .before .before .before .before .before .before .before .before .before .before .before)) .even)
+meeting-requires-3 c κs = climbs-from (c .before .before .before .before .before .before .before .before .before .before .before .before .before .before .before .before .before .before .before .before .before .before .before .before .before .before .before .args .parent .now) (c .before .before .before .before .before .before .before .before .before .before .before .before .before .before .before .before .before .before .before .before .before .before .before .before .before .before .before .args .depth .now) (c .before .before .before .before .before .before .before .before .before .before .before .before .before .before .before .before .before .before .before .before .before .before .before .before .before .before .before .args .head .now) (c .before .before .before .before .before .before .before .before .before .before .before .before .before .before .before .before .before .before .before .before .before .before .before .before .before .before .before .args .id .now) (c .before .before .before .before .before .before .before .before .before .before .before .before .before .before .before .before .reach .ensures) (not-false _ (c .before .before .before .before .before .before .before .before .before .before .before .before .before .before .if1 .left)) (c .before .before .before .before .before .before .before .before .before .before .reach3 .ensures) (not-false _ (c .before .before .before .before .before .before .before .before .if3 .left)) (lengths (passed (c .before .before .before .before .before .before .before .before .before .before .before .before .before .before .before .before .before)) .even) (few-parent (lengths (passed (c .before .before .before .before .before .before .before .before .before .before .before .before .before .before .before .before .before)) .few))
 
 enum-known-c : tie.Need-enum-known-c
 enum-known-c c = search needs
 
-enum-told-7 : tie.Need-enum-told-7
-enum-told-7 c = search needs
+enum-told-4 : tie.Need-enum-told-4
+enum-told-4 c = search needs
 
 returns-7 : tie.Need-returns-7
-returns-7 c = answered (passed (c .before .before .before .before .before .before .before .before .before .before .before .before .before .before .before .before .before .before .before .before .before .before .before)) Refused (lca-lost-3 _ (lent (c .before .before .before .before .before .before .before .before .before .before .before .before .before .before .before .before .before .before .before .before .before .before .before .before .before .before .before .before .before .before .before .before .before)) (c .before .before .before .before .before .before .before .before .before .before .before .before .before .before .before .before .before .before .before .before .before .before .before .before .before .before .before .before .before .before .before .before .before .args .r) (c .before .before .before .before .before .before .before .before .before .before .before .before .before .before .before .before .before .before .before .before .before .before .before .before .before .before .before .before .before .before .before .before .before .args .u) (c .before .before .before .before .before .before .before .before .before .before .before .before .before .before .before .before .before .before .before .before .before .before .before .before .before .before .before .before .before .before .before .before .before .args .v) (ended-is (lent (c .before .before .before .before .before .before .before .before .before .before .before .before .before .before .before .before .before .before .before .before .before .before .before .before .before .before .before .before .before .before .before .before .before)) (c .before .before .before .before .before .before .before .before .before .before .before .before .before .before .before .before .before .before .before .before .before .before .before .before .before .before .before .before .before .before .before .before .before .args .u) (c .before .before .before .before .before .before .before .before .before .before .before .before .before .before .before .before .before .before .before .before .before .before .before .before .before .before .before .before .before .before .before .before .before .args .v) (c .before .before .before .before .before .before .before .before .before .before .before .before .before .before .before .before .before .before .stand2 .ensures) (c .before .before .before .before .before .before .before .before .before .before .before .before .before .before .before .before .p .given .1) (c .before .before .before .before .before .before .before .before .before .before .before .before .before .before .stand3 .ensures) (c .before .before .before .before .before .before .before .before .before .before .before .before .q .given .1) (c .before .before .before .before .before .before .before .before .before .before .meeting .ensures) (c .before .before .before .before .before .before .before .before .a .given .1)) (ended-is (lent (c .before .before .before .before .before .before .before .before .before .before .before .before .before .before .before .before .before .before .before .before .before .before .before .before .before .before .before .before .before .before .before .before .before)) (c .before .before .before .before .before .before .before .before .before .before .before .before .before .before .before .before .before .before .before .before .before .before .before .before .before .before .before .before .before .before .before .before .before .args .r) (c .before .before .before .before .before .before .before .before .before .before .before .before .before .before .before .before .before .before .before .before .before .before .before .before .before .before .before .before .before .before .before .before .before .args .u) (c .before .before .before .before .before .before .before .before .before .before .before .before .before .before .before .before .before .before .before .before .before .before .stand .ensures) (c .before .before .before .before .before .before .before .before .before .before .before .before .before .before .before .before .before .before .before .before .s .given .1) (c .before .before .before .before .before .before .before .before .before .before .before .before .before .before .before .before .before .before .stand2 .ensures) (c .before .before .before .before .before .before .before .before .before .before .before .before .before .before .before .before .p .given .1) (c .before .before .before .before .before .before .meeting2 .ensures) (c .before .before .before .before .b .given .1)) (ended-is (lent (c .before .before .before .before .before .before .before .before .before .before .before .before .before .before .before .before .before .before .before .before .before .before .before .before .before .before .before .before .before .before .before .before .before)) (c .before .before .before .before .before .before .before .before .before .before .before .before .before .before .before .before .before .before .before .before .before .before .before .before .before .before .before .before .before .before .before .before .before .args .r) (c .before .before .before .before .before .before .before .before .before .before .before .before .before .before .before .before .before .before .before .before .before .before .before .before .before .before .before .before .before .before .before .before .before .args .v) (c .before .before .before .before .before .before .before .before .before .before .before .before .before .before .before .before .before .before .before .before .before .before .stand .ensures) (c .before .before .before .before .before .before .before .before .before .before .before .before .before .before .before .before .before .before .before .before .s .given .1) (c .before .before .before .before .before .before .before .before .before .before .before .before .before .before .stand3 .ensures) (c .before .before .before .before .before .before .before .before .before .before .before .before .q .given .1) (c .before .before .meeting3 .ensures) (c .enum-told7 .given .1)))
+returns-7 c = answered (passed (c .before .before .before .before .before .before .before .before .before .before .before .before .before .before .before .before .before .before .before .before)) Refused (lca-lost-3 _ _ _ _ _ (sym (ended-there _ _ (reached-vertex (c .before .before .before .before .before .before .before .before .before .before .before .before .before .before .before .before .before .before .before .before .before .before .before .before .before .before .before .before .before .before .args .parent .now) (c .before .before .before .before .before .before .before .before .before .before .before .before .before .before .before .before .before .before .before .before .before .before .before .before .before .before .before .before .before .before .args .depth .now) (c .before .before .before .before .before .before .before .before .before .before .before .before .before .before .before .before .before .before .before .before .before .before .before .before .before .before .before .before .before .before .args .head .now) (c .before .before .before .before .before .before .before .before .before .before .before .before .before .before .before .before .before .before .before .before .before .before .before .before .before .before .before .before .before .before .args .id .now) (c .before .before .before .before .before .before .before .before .before .before .before .before .before .before .before .before .reach2 .ensures) (not-false _ (c .before .before .before .before .before .before .before .before .before .before .before .before .before .before .if2 .left))) (reached-vertex (c .before .before .before .before .before .before .before .before .before .before .before .before .before .before .before .before .before .before .before .before .before .before .before .before .before .before .before .before .before .before .args .parent .now) (c .before .before .before .before .before .before .before .before .before .before .before .before .before .before .before .before .before .before .before .before .before .before .before .before .before .before .before .before .before .before .args .depth .now) (c .before .before .before .before .before .before .before .before .before .before .before .before .before .before .before .before .before .before .before .before .before .before .before .before .before .before .before .before .before .before .args .head .now) (c .before .before .before .before .before .before .before .before .before .before .before .before .before .before .before .before .before .before .before .before .before .before .before .before .before .before .before .before .before .before .args .id .now) (c .before .before .before .before .before .before .before .before .before .before .before .before .before .reach3 .ensures) (not-false _ (c .before .before .before .before .before .before .before .before .before .before .before .if3 .left)))) ∙ (sym (c .before .before .before .before .before .before .before .before .before .before .meeting .ensures _ _) ∙ c .before .before .before .before .before .before .before .before .a .given .1)) (sym (ended-there _ _ (reached-vertex (c .before .before .before .before .before .before .before .before .before .before .before .before .before .before .before .before .before .before .before .before .before .before .before .before .before .before .before .before .before .before .args .parent .now) (c .before .before .before .before .before .before .before .before .before .before .before .before .before .before .before .before .before .before .before .before .before .before .before .before .before .before .before .before .before .before .args .depth .now) (c .before .before .before .before .before .before .before .before .before .before .before .before .before .before .before .before .before .before .before .before .before .before .before .before .before .before .before .before .before .before .args .head .now) (c .before .before .before .before .before .before .before .before .before .before .before .before .before .before .before .before .before .before .before .before .before .before .before .before .before .before .before .before .before .before .args .id .now) (c .before .before .before .before .before .before .before .before .before .before .before .before .before .before .before .before .before .before .before .reach .ensures) (not-false _ (c .before .before .before .before .before .before .before .before .before .before .before .before .before .before .before .before .before .if1 .left))) (reached-vertex (c .before .before .before .before .before .before .before .before .before .before .before .before .before .before .before .before .before .before .before .before .before .before .before .before .before .before .before .before .before .before .args .parent .now) (c .before .before .before .before .before .before .before .before .before .before .before .before .before .before .before .before .before .before .before .before .before .before .before .before .before .before .before .before .before .before .args .depth .now) (c .before .before .before .before .before .before .before .before .before .before .before .before .before .before .before .before .before .before .before .before .before .before .before .before .before .before .before .before .before .before .args .head .now) (c .before .before .before .before .before .before .before .before .before .before .before .before .before .before .before .before .before .before .before .before .before .before .before .before .before .before .before .before .before .before .args .id .now) (c .before .before .before .before .before .before .before .before .before .before .before .before .before .before .before .before .reach2 .ensures) (not-false _ (c .before .before .before .before .before .before .before .before .before .before .before .before .before .before .if2 .left)))) ∙ (sym (c .before .before .before .before .before .before .meeting2 .ensures _ _) ∙ c .before .before .before .before .b .given .1)) (sym (ended-there _ _ (reached-vertex (c .before .before .before .before .before .before .before .before .before .before .before .before .before .before .before .before .before .before .before .before .before .before .before .before .before .before .before .before .before .before .args .parent .now) (c .before .before .before .before .before .before .before .before .before .before .before .before .before .before .before .before .before .before .before .before .before .before .before .before .before .before .before .before .before .before .args .depth .now) (c .before .before .before .before .before .before .before .before .before .before .before .before .before .before .before .before .before .before .before .before .before .before .before .before .before .before .before .before .before .before .args .head .now) (c .before .before .before .before .before .before .before .before .before .before .before .before .before .before .before .before .before .before .before .before .before .before .before .before .before .before .before .before .before .before .args .id .now) (c .before .before .before .before .before .before .before .before .before .before .before .before .before .before .before .before .before .before .before .reach .ensures) (not-false _ (c .before .before .before .before .before .before .before .before .before .before .before .before .before .before .before .before .before .if1 .left))) (reached-vertex (c .before .before .before .before .before .before .before .before .before .before .before .before .before .before .before .before .before .before .before .before .before .before .before .before .before .before .before .before .before .before .args .parent .now) (c .before .before .before .before .before .before .before .before .before .before .before .before .before .before .before .before .before .before .before .before .before .before .before .before .before .before .before .before .before .before .args .depth .now) (c .before .before .before .before .before .before .before .before .before .before .before .before .before .before .before .before .before .before .before .before .before .before .before .before .before .before .before .before .before .before .args .head .now) (c .before .before .before .before .before .before .before .before .before .before .before .before .before .before .before .before .before .before .before .before .before .before .before .before .before .before .before .before .before .before .args .id .now) (c .before .before .before .before .before .before .before .before .before .before .before .before .before .reach3 .ensures) (not-false _ (c .before .before .before .before .before .before .before .before .before .before .before .if3 .left)))) ∙ (sym (c .before .before .meeting3 .ensures _ _) ∙ c .enum-told4 .given .1)))
 
-array-copy-out-deeper : tie.Need-array-copy-out-deeper
-array-copy-out-deeper c = search needs
-
-array-copy-out-deeper-2 : tie.Need-array-copy-out-deeper-2
-array-copy-out-deeper-2 c = search needs
-
-deeper-requires : tie.Need-deeper-requires
-deeper-requires c κs = search needs
-
-array-copy-out-deeper-3 : tie.Need-array-copy-out-deeper-3
-array-copy-out-deeper-3 c = search needs
-
-deeper-requires-2 : tie.Need-deeper-requires-2
-deeper-requires-2 c κs = search needs
+deepest-requires : tie.Need-deepest-requires
+deepest-requires c κs = search needs
 
 returns-8 : tie.Need-returns-8
-returns-8 c = answered (passed (c .before .before .before .before .before .before .before .before .before .before .before .before .before .before .before .before .before .before .before .before .before .before .before .before .before .before .before .before .before)) Refused (lca-met _ (lent (c .before .before .before .before .before .before .before .before .before .before .before .before .before .before .before .before .before .before .before .before .before .before .before .before .before .before .before .before .before .before .before .before .before .before .before .before .before .before .before)) (c .before .before .before .before .before .before .before .before .before .before .before .before .before .before .before .before .before .before .before .before .before .before .before .before .before .before .before .before .before .before .before .before .before .before .before .before .before .before .before .args .r) (c .before .before .before .before .before .before .before .before .before .before .before .before .before .before .before .before .before .before .before .before .before .before .before .before .before .before .before .before .before .before .before .before .before .before .before .before .before .before .before .args .u) (c .before .before .before .before .before .before .before .before .before .before .before .before .before .before .before .before .before .before .before .before .before .before .before .before .before .before .before .before .before .before .before .before .before .before .before .before .before .before .before .args .v) (ended-is (lent (c .before .before .before .before .before .before .before .before .before .before .before .before .before .before .before .before .before .before .before .before .before .before .before .before .before .before .before .before .before .before .before .before .before .before .before .before .before .before .before)) (c .before .before .before .before .before .before .before .before .before .before .before .before .before .before .before .before .before .before .before .before .before .before .before .before .before .before .before .before .before .before .before .before .before .before .before .before .before .before .before .args .u) (c .before .before .before .before .before .before .before .before .before .before .before .before .before .before .before .before .before .before .before .before .before .before .before .before .before .before .before .before .before .before .before .before .before .before .before .before .before .before .before .args .v) (c .before .before .before .before .before .before .before .before .before .before .before .before .before .before .before .before .before .before .before .before .before .before .before .before .stand2 .ensures) (c .before .before .before .before .before .before .before .before .before .before .before .before .before .before .before .before .before .before .before .before .before .before .p .given .1) (c .before .before .before .before .before .before .before .before .before .before .before .before .before .before .before .before .before .before .before .before .stand3 .ensures) (c .before .before .before .before .before .before .before .before .before .before .before .before .before .before .before .before .before .before .q .given .1) (c .before .before .before .before .before .before .before .before .before .before .before .before .before .before .before .before .meeting .ensures) (c .before .before .before .before .before .before .before .before .before .before .before .before .before .before .a .given .1)) (ended-is (lent (c .before .before .before .before .before .before .before .before .before .before .before .before .before .before .before .before .before .before .before .before .before .before .before .before .before .before .before .before .before .before .before .before .before .before .before .before .before .before .before)) (c .before .before .before .before .before .before .before .before .before .before .before .before .before .before .before .before .before .before .before .before .before .before .before .before .before .before .before .before .before .before .before .before .before .before .before .before .before .before .before .args .r) (c .before .before .before .before .before .before .before .before .before .before .before .before .before .before .before .before .before .before .before .before .before .before .before .before .before .before .before .before .before .before .before .before .before .before .before .before .before .before .before .args .u) (c .before .before .before .before .before .before .before .before .before .before .before .before .before .before .before .before .before .before .before .before .before .before .before .before .before .before .before .before .stand .ensures) (c .before .before .before .before .before .before .before .before .before .before .before .before .before .before .before .before .before .before .before .before .before .before .before .before .before .before .s .given .1) (c .before .before .before .before .before .before .before .before .before .before .before .before .before .before .before .before .before .before .before .before .before .before .before .before .stand2 .ensures) (c .before .before .before .before .before .before .before .before .before .before .before .before .before .before .before .before .before .before .before .before .before .before .p .given .1) (c .before .before .before .before .before .before .before .before .before .before .before .before .meeting2 .ensures) (c .before .before .before .before .before .before .before .before .before .before .b .given .1)) (ended-is (lent (c .before .before .before .before .before .before .before .before .before .before .before .before .before .before .before .before .before .before .before .before .before .before .before .before .before .before .before .before .before .before .before .before .before .before .before .before .before .before .before)) (c .before .before .before .before .before .before .before .before .before .before .before .before .before .before .before .before .before .before .before .before .before .before .before .before .before .before .before .before .before .before .before .before .before .before .before .before .before .before .before .args .r) (c .before .before .before .before .before .before .before .before .before .before .before .before .before .before .before .before .before .before .before .before .before .before .before .before .before .before .before .before .before .before .before .before .before .before .before .before .before .before .before .args .v) (c .before .before .before .before .before .before .before .before .before .before .before .before .before .before .before .before .before .before .before .before .before .before .before .before .before .before .before .before .stand .ensures) (c .before .before .before .before .before .before .before .before .before .before .before .before .before .before .before .before .before .before .before .before .before .before .before .before .before .before .s .given .1) (c .before .before .before .before .before .before .before .before .before .before .before .before .before .before .before .before .before .before .before .before .stand3 .ensures) (c .before .before .before .before .before .before .before .before .before .before .before .before .before .before .before .before .before .before .q .given .1) (c .before .before .before .before .before .before .before .before .meeting3 .ensures) (c .before .before .before .before .before .before .c .given .1)) (c .before .before .deeper .ensures) (c .deeper2 .ensures))
+returns-8 c = answered (passed (c .before .before .before .before .before .before .before .before .before .before .before .before .before .before .before .before .before .before .before .before .before .before)) Refused (lca-met _ _ _ _ _ (sym (ended-there _ _ (reached-vertex (c .before .before .before .before .before .before .before .before .before .before .before .before .before .before .before .before .before .before .before .before .before .before .before .before .before .before .before .before .before .before .before .before .args .parent .now) (c .before .before .before .before .before .before .before .before .before .before .before .before .before .before .before .before .before .before .before .before .before .before .before .before .before .before .before .before .before .before .before .before .args .depth .now) (c .before .before .before .before .before .before .before .before .before .before .before .before .before .before .before .before .before .before .before .before .before .before .before .before .before .before .before .before .before .before .before .before .args .head .now) (c .before .before .before .before .before .before .before .before .before .before .before .before .before .before .before .before .before .before .before .before .before .before .before .before .before .before .before .before .before .before .before .before .args .id .now) (c .before .before .before .before .before .before .before .before .before .before .before .before .before .before .before .before .before .before .reach2 .ensures) (not-false _ (c .before .before .before .before .before .before .before .before .before .before .before .before .before .before .before .before .if2 .left))) (reached-vertex (c .before .before .before .before .before .before .before .before .before .before .before .before .before .before .before .before .before .before .before .before .before .before .before .before .before .before .before .before .before .before .before .before .args .parent .now) (c .before .before .before .before .before .before .before .before .before .before .before .before .before .before .before .before .before .before .before .before .before .before .before .before .before .before .before .before .before .before .before .before .args .depth .now) (c .before .before .before .before .before .before .before .before .before .before .before .before .before .before .before .before .before .before .before .before .before .before .before .before .before .before .before .before .before .before .before .before .args .head .now) (c .before .before .before .before .before .before .before .before .before .before .before .before .before .before .before .before .before .before .before .before .before .before .before .before .before .before .before .before .before .before .before .before .args .id .now) (c .before .before .before .before .before .before .before .before .before .before .before .before .before .before .before .reach3 .ensures) (not-false _ (c .before .before .before .before .before .before .before .before .before .before .before .before .before .if3 .left)))) ∙ (sym (c .before .before .before .before .before .before .before .before .before .before .before .before .meeting .ensures _ _) ∙ c .before .before .before .before .before .before .before .before .before .before .a .given .1)) (sym (ended-there _ _ (reached-vertex (c .before .before .before .before .before .before .before .before .before .before .before .before .before .before .before .before .before .before .before .before .before .before .before .before .before .before .before .before .before .before .before .before .args .parent .now) (c .before .before .before .before .before .before .before .before .before .before .before .before .before .before .before .before .before .before .before .before .before .before .before .before .before .before .before .before .before .before .before .before .args .depth .now) (c .before .before .before .before .before .before .before .before .before .before .before .before .before .before .before .before .before .before .before .before .before .before .before .before .before .before .before .before .before .before .before .before .args .head .now) (c .before .before .before .before .before .before .before .before .before .before .before .before .before .before .before .before .before .before .before .before .before .before .before .before .before .before .before .before .before .before .before .before .args .id .now) (c .before .before .before .before .before .before .before .before .before .before .before .before .before .before .before .before .before .before .before .before .before .reach .ensures) (not-false _ (c .before .before .before .before .before .before .before .before .before .before .before .before .before .before .before .before .before .before .before .if1 .left))) (reached-vertex (c .before .before .before .before .before .before .before .before .before .before .before .before .before .before .before .before .before .before .before .before .before .before .before .before .before .before .before .before .before .before .before .before .args .parent .now) (c .before .before .before .before .before .before .before .before .before .before .before .before .before .before .before .before .before .before .before .before .before .before .before .before .before .before .before .before .before .before .before .before .args .depth .now) (c .before .before .before .before .before .before .before .before .before .before .before .before .before .before .before .before .before .before .before .before .before .before .before .before .before .before .before .before .before .before .before .before .args .head .now) (c .before .before .before .before .before .before .before .before .before .before .before .before .before .before .before .before .before .before .before .before .before .before .before .before .before .before .before .before .before .before .before .before .args .id .now) (c .before .before .before .before .before .before .before .before .before .before .before .before .before .before .before .before .before .before .reach2 .ensures) (not-false _ (c .before .before .before .before .before .before .before .before .before .before .before .before .before .before .before .before .if2 .left)))) ∙ (sym (c .before .before .before .before .before .before .before .before .meeting2 .ensures _ _) ∙ c .before .before .before .before .before .before .b .given .1)) (sym (ended-there _ _ (reached-vertex (c .before .before .before .before .before .before .before .before .before .before .before .before .before .before .before .before .before .before .before .before .before .before .before .before .before .before .before .before .before .before .before .before .args .parent .now) (c .before .before .before .before .before .before .before .before .before .before .before .before .before .before .before .before .before .before .before .before .before .before .before .before .before .before .before .before .before .before .before .before .args .depth .now) (c .before .before .before .before .before .before .before .before .before .before .before .before .before .before .before .before .before .before .before .before .before .before .before .before .before .before .before .before .before .before .before .before .args .head .now) (c .before .before .before .before .before .before .before .before .before .before .before .before .before .before .before .before .before .before .before .before .before .before .before .before .before .before .before .before .before .before .before .before .args .id .now) (c .before .before .before .before .before .before .before .before .before .before .before .before .before .before .before .before .before .before .before .before .before .reach .ensures) (not-false _ (c .before .before .before .before .before .before .before .before .before .before .before .before .before .before .before .before .before .before .before .if1 .left))) (reached-vertex (c .before .before .before .before .before .before .before .before .before .before .before .before .before .before .before .before .before .before .before .before .before .before .before .before .before .before .before .before .before .before .before .before .args .parent .now) (c .before .before .before .before .before .before .before .before .before .before .before .before .before .before .before .before .before .before .before .before .before .before .before .before .before .before .before .before .before .before .before .before .args .depth .now) (c .before .before .before .before .before .before .before .before .before .before .before .before .before .before .before .before .before .before .before .before .before .before .before .before .before .before .before .before .before .before .before .before .args .head .now) (c .before .before .before .before .before .before .before .before .before .before .before .before .before .before .before .before .before .before .before .before .before .before .before .before .before .before .before .before .before .before .before .before .args .id .now) (c .before .before .before .before .before .before .before .before .before .before .before .before .before .before .before .reach3 .ensures) (not-false _ (c .before .before .before .before .before .before .before .before .before .before .before .before .before .if3 .left)))) ∙ (sym (c .before .before .before .before .meeting3 .ensures _ _) ∙ c .before .before .c .given .1)) refl (c .deepest .ensures _ _ _ refl))
 
 pub lca-spec : {M : Type 1} → statement M
 lca-spec =
@@ -133,33 +109,23 @@ lca-spec =
     enum-known-refusal
     returns
     enum-told
-    stand-requires
-    enum-known-s
-    enum-told-2
+    reach-requires
     returns-2
-    stand-requires-2
-    enum-known-p
-    enum-told-3
+    reach-requires-2
     returns-3
-    stand-requires-3
-    enum-known-q
-    enum-told-4
+    reach-requires-3
     returns-4
     meeting-requires
     enum-known-a
-    enum-told-5
+    enum-told-2
     returns-5
     meeting-requires-2
     enum-known-b
-    enum-told-6
+    enum-told-3
     returns-6
     meeting-requires-3
     enum-known-c
-    enum-told-7
+    enum-told-4
     returns-7
-    array-copy-out-deeper
-    array-copy-out-deeper-2
-    deeper-requires
-    array-copy-out-deeper-3
-    deeper-requires-2
+    deepest-requires
     returns-8)

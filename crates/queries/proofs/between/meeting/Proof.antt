@@ -1,14 +1,16 @@
--- `between::meeting` meets its contract: it climbs, and keeps the vertex and the depth of the ancestor.
+-- `between::meeting` meets its contract: it ends where the climb from the two vertices does.
 use borrow.Author.Needs.{needs}
 use Rattle.queries.proofs.between.meeting.Statement.{statement}
 use Rattle.queries.proofs.between.meeting.Tie as tie
+use borrow.Author.Tests.{not-true, not-false}
 use mathlib.Core.Path.{sym, ap, _∙_}
 use Rattle.climb.specs.declared.places.Place.{Place}
 use Rattle.queries.specs.Inner.{candidateOf, endOf}
 use Rattle.queries.specs.declared.between.Ended.the-variants.{At}
+use Rattle.climb.proofs.Handed.{climbed-off, climbed-unhung, climbed-on}
 
-climb-from-requires : tie.Need-climb-from-requires
-climb-from-requires c κs = search needs
+climb-to-lca-requires : tie.Need-climb-to-lca-requires
+climb-to-lca-requires c κs = search needs
 
 enum-known-c : tie.Need-enum-known-c
 enum-known-c c = search needs
@@ -17,15 +19,29 @@ enum-told : tie.Need-enum-told
 enum-told c = search needs
 
 returns : tie.Need-returns
-returns c = λ o s. ap endOf (sym (c .enum-told .given .1) ∙ c .before .before .climb-from .ensures .climb o s)
+returns c = λ o s. sym (ap endOf (climbed-off (c .before .before .before .before .before .before .before .args .parent .now) (c .before .before .before .before .before .before .before .args .depth .now) (c .before .before .before .before .before .before .before .args .head .now) (c .before .before .before .before .before .before .before .args .id .now) (c .before .before .climb-to-lca .ensures) (c .enum-told .given .1) o s))
+
+hangs-requires : tie.Need-hangs-requires
+hangs-requires c κs = record { depth = c .before .before .before .before .before .before .before .before .pre .even .depth; id = c .before .before .before .before .before .before .before .before .pre .even .id }
+
+returns-2 : tie.Need-returns-2
+returns-2 c = λ o s. sym (ap endOf (climbed-unhung (c .before .before .before .before .before .before .before .before .before .before .args .parent .now) (c .before .before .before .before .before .before .before .before .before .before .args .depth .now) (c .before .before .before .before .before .before .before .before .before .before .args .head .now) (c .before .before .before .before .before .before .before .before .before .before .args .id .now) (c .before .before .before .before .before .climb-to-lca .ensures) (c .before .before .before .c .given .1) (sym (c .before .hangs .ensures) ∙ not-true _ (c .if1 .taken)) o s))
 
 ancestor-requires : tie.Need-ancestor-requires
 ancestor-requires c κs = search needs
 
-returns-2 : tie.Need-returns-2
-returns-2 c = λ o s. ap (λ (w : Place). At (candidateOf w)) (c .ancestor .ensures) ∙ ap endOf (sym (c .before .before .c .given .1) ∙ c .before .before .before .before .climb-from .ensures .climb o s)
+returns-3 : tie.Need-returns-3
+returns-3 c = λ o s. ap (λ (w : Place). At (candidateOf w)) (c .ancestor .ensures) ∙ sym (ap endOf (climbed-on (c .before .before .before .before .before .before .before .before .before .before .before .args .parent .now) (c .before .before .before .before .before .before .before .before .before .before .before .args .depth .now) (c .before .before .before .before .before .before .before .before .before .before .before .args .head .now) (c .before .before .before .before .before .before .before .before .before .before .before .args .id .now) (c .before .before .before .before .before .before .climb-to-lca .ensures) (c .before .before .before .before .c .given .1) (sym (c .before .before .hangs .ensures) ∙ not-false _ (c .before .if1 .left)) o s))
 
 pub meeting-spec : {M : Type 1} → statement M
 meeting-spec =
     tie.close
-    (tie.spec climb-from-requires enum-known-c enum-told returns ancestor-requires returns-2)
+    (tie.spec
+    climb-to-lca-requires
+    enum-known-c
+    enum-told
+    returns
+    hangs-requires
+    returns-2
+    ancestor-requires
+    returns-3)

@@ -1,23 +1,27 @@
--- `reads::root` meets its contract: it stands on the first vertex of the order.
+-- `reads::root` meets its contract: the first vertex of the order, where it is one and sound.
 use borrow.Author.Needs.{needs}
 use Rattle.queries.proofs.reads.root.Statement.{statement}
 use Rattle.queries.proofs.reads.root.Tie as tie
-use Rattle.queries.proofs.reads.root.Reads as reads
+use borrow.Author.Tests.{not-true, not-false}
 use mathlib.Core.Path.{sym, _∙_}
 use mathlib.Core.List.{[]}
 use Rattle.tables.specs.Tables.{Six, six}
-use Rattle.climb.specs.declared.answers.Answer.the-variants.{Refused}
-use Rattle.climb.proofs.Passed.{Passed, verdict-passed, verdict-refused, lengths}
 use native.Mathlib.Omega.{arith}
 use mir.Facts.{fits-widen}
+use Rattle.climb.specs.declared.answers.Answer.the-variants.{Refused}
+use Rattle.climb.proofs.Passed.{Passed, verdict-passed, verdict-refused, lengths}
+use Rattle.climb.proofs.Reaching.{stood-on, stood-off}
 use Rattle.queries.proofs.Reading.{root-beyond, root-off, root-on}
 
 abbrev lent : tie.Start → Six
 lent b = six (b .args .parent .now) (b .args .depth .now) (b .args .head .now) (b .args .id .now) (b .args .order .now) (b .args .size .now)
 
+abbrev start : tie.After-enum-told → tie.Start
+start c = c .before .before .before .before .before .before .before .before .before .before
+
 -- the tests before the query were passed
-passed : (c : tie.After-enum-told) → Passed (lent (c .before .before .before .before .before .before .before .before .before .before)) ([])
-passed c = verdict-passed (lent (c .before .before .before .before .before .before .before .before .before .before)) ([]) (sym (c .before .before .asked .ensures) ∙ c .enum-told .given .1)
+passed : (c : tie.After-enum-told) → Passed (lent (start c)) ([])
+passed c = verdict-passed (lent (start c)) ([]) (sym (c .before .before .asked .ensures) ∙ c .enum-told .given .1)
 
 slice-aggregate-asked : tie.Need-slice-aggregate-asked
 slice-aggregate-asked c = search needs
@@ -29,7 +33,7 @@ enum-known-refusal : tie.Need-enum-known-refusal
 enum-known-refusal c = search needs
 
 returns : tie.Need-returns
-returns c = verdict-refused (lent (c .before .before .before .before .before .before .before .before .before .before .before)) ([]) Refused _ (sym (c .before .before .before .asked .ensures) ∙ c .before .refusal .given .1)
+returns c = verdict-refused (lent (c .before .before .before .before .before .before .before .before .before .before .before)) [] Refused _ (sym (c .before .before .before .asked .ensures) ∙ c .before .refusal .given .1)
 
 enum-told : tie.Need-enum-told
 enum-told c = search needs
@@ -46,17 +50,11 @@ returns-2 c = root-beyond _ (passed (c .before .before)) (c .if1 .taken)
 stand-requires : tie.Need-stand-requires
 stand-requires c κs = record { even = lengths (passed (c .before .before)) .even; vertex = c .if1 .left }
 
-enum-told-2 : tie.Need-enum-told-2
-enum-told-2 c = search needs
-
-enum-told-3 : tie.Need-enum-told-3
-enum-told-3 c = search needs
-
 returns-3 : tie.Need-returns-3
-returns-3 c = root-off _ (passed (c .before .before .before .before .before)) (c .before .before .before .if1 .left) (sym (c .before .before .stand .ensures _ _) ∙ c .enum-told3 .given .1)
+returns-3 c = root-off _ (passed (c .before .before .before .before .before)) (c .before .before .before .if1 .left) (stood-off _ _ _ _ (c .before .before .stand .ensures) (not-true _ (c .if2 .taken)) _ _)
 
 returns-4 : tie.Need-returns-4
-returns-4 c = root-on _ (passed (c .before .before .before .before .before)) (c .before .before .before .if1 .left) (sym (c .before .before .stand .ensures _ _) ∙ c .enum-told2 .given .1)
+returns-4 c = root-on _ (passed (c .before .before .before .before .before)) (c .before .before .before .if1 .left) (stood-on _ _ _ _ (c .before .before .stand .ensures) (not-false _ (c .if2 .left)) _ _)
 
 pub root-spec : {M : Type 1} → statement M
 root-spec =
@@ -71,7 +69,5 @@ root-spec =
     cast-r
     returns-2
     stand-requires
-    enum-told-2
-    enum-told-3
     returns-3
     returns-4)

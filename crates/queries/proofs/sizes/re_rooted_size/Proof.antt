@@ -9,12 +9,16 @@ use mathlib.Core.List.{[]}
 use mir.Facts.{fits-widen}
 use lib.ListN.{length}
 use Rattle.tables.specs.Tables.{Six, six}
-use Rattle.queries.specs.Queries.{withoutChild}
+use Prim.Native.Nat.{ℕ, _-_}
+use Rattle.numbering.specs.Log.{log2}
+use Rattle.climb.specs.Inner.{Seat}
+use Rattle.queries.specs.Queries.{ancestorIn, withoutChild}
+use Rattle.queries.specs.Inner.{riseFrom}
+use Rattle.climb.proofs.Reaching.{stood-seat}
 use Rattle.climb.proofs.Soundness.{stood-placed}
 use Rattle.queries.proofs.Rising.{rise-from, found-below}
 use Rattle.queries.proofs.Counting.{size-unsized, size-before, size-after, size-shallow, size-inside, left-refused}
-use Rattle.climb.specs.Sound.{standOn}
-use Rattle.climb.specs.declared.places.Stood.the-variants.{On}
+use Rattle.climb.specs.Sound.{standOn, On}
 
 abbrev lent : tie.Start → Six
 lent b = six (b .args .parent .now) (b .args .depth .now) (b .args .head .now) (b .args .id .now) (b .args .order .now) (b .args .size .now)
@@ -25,6 +29,13 @@ on-a b = sym (b .pre .on-a (b .args .order .now) (b .args .size .now))
 
 on-b : (b : tie.Start) → standOn (length (b .args .parent .now)) (lent b) (b .args .b .vertex) ≡ On (b .args .b)
 on-b b = sym (b .pre .on-b (b .args .order .now) (b .args .size .now))
+
+-- so one may rise from a, and finds what the lookup from its vertex does
+seat-a : (b : tie.Start) → Seat (b .args .parent .now) (b .args .depth .now) (b .args .head .now) (b .args .id .now) (b .args .a)
+seat-a b = stood-seat (b .args .parent .now) (b .args .depth .now) (b .args .head .now) (b .args .id .now) (b .args .a .vertex) (λ o s. sym (b .pre .on-a o s)) .0
+
+risen : (b : tie.Start) (k : ℕ) → riseFrom (log2 (length (b .args .parent .now))) (length (b .args .parent .now)) (lent b) (b .args .a) k ≡ ancestorIn (length (b .args .parent .now)) (lent b) (b .args .a .vertex) k
+risen b k = rise-from (b .args .parent .now) (b .args .depth .now) (b .args .head .now) (b .args .id .now) (b .args .order .now) (b .args .a) k (seat-a b) (b .args .size .now)
 
 mul-count : tie.Need-mul-count
 mul-count c = search needs
@@ -60,7 +71,7 @@ sub-steps-2 : tie.Need-sub-steps-2
 sub-steps-2 c = search needs
 
 ancestor-from-requires : tie.Need-ancestor-from-requires
-ancestor-from-requires c κs = record { even = c .before .before .before .before .before .before .before .before .before .before .before .before .before .before .before .before .before .before .before .before .pre .even; order = c .before .before .before .before .before .before .before .before .before .before .before .before .before .before .before .before .before .before .before .before .pre .order; place = stood-placed _ _ _ (sym (c .before .before .before .before .before .before .before .before .before .before .before .before .before .before .before .before .before .before .before .before .pre .on-a [] [])) }
+ancestor-from-requires c κs = record { even = c .before .before .before .before .before .before .before .before .before .before .before .before .before .before .before .before .before .before .before .before .pre .even; order = c .before .before .before .before .before .before .before .before .before .before .before .before .before .before .before .before .before .before .before .before .pre .order; seat = seat-a (c .before .before .before .before .before .before .before .before .before .before .before .before .before .before .before .before .before .before .before .before) }
 
 enum-known-found : tie.Need-enum-known-found
 enum-known-found c = search needs
@@ -69,13 +80,13 @@ enum-told : tie.Need-enum-told
 enum-told c = search needs
 
 returns-5 : tie.Need-returns-5
-returns-5 c = left-refused _ (lent (c .before .before .before .before .before .before .before .before .before .before .before .before .before .before .before .before .before .before .before .before .before .before .before)) (c .enum-told .given .1) ∙ (ap (withoutChild _ (lent (c .before .before .before .before .before .before .before .before .before .before .before .before .before .before .before .before .before .before .before .before .before .before .before))) (c .before .before .ancestor-from .ensures _ ∙ rise-from _ (lent (c .before .before .before .before .before .before .before .before .before .before .before .before .before .before .before .before .before .before .before .before .before .before .before)) _ _ (on-a (c .before .before .before .before .before .before .before .before .before .before .before .before .before .before .before .before .before .before .before .before .before .before .before))) ∙ size-inside _ (lent (c .before .before .before .before .before .before .before .before .before .before .before .before .before .before .before .before .before .before .before .before .before .before .before)) (on-a (c .before .before .before .before .before .before .before .before .before .before .before .before .before .before .before .before .before .before .before .before .before .before .before)) (on-b (c .before .before .before .before .before .before .before .before .before .before .before .before .before .before .before .before .before .before .before .before .before .before .before)) (sym (c .before .before .before .before .before .before .before .before .before .before .before .before .before .before .before .size-sound .ensures) ∙ not-false _ (c .before .before .before .before .before .before .before .before .before .before .before .before .before .before .if1 .left)) (c .before .before .before .before .before .before .before .before .before .before .before .if2 .left) (c .before .before .before .before .before .before .before .before .if3 .left) (c .before .before .before .before .before .if4 .left))
+returns-5 c = left-refused _ (lent (c .before .before .before .before .before .before .before .before .before .before .before .before .before .before .before .before .before .before .before .before .before .before .before)) (c .enum-told .given .1) ∙ (ap (withoutChild _ (lent (c .before .before .before .before .before .before .before .before .before .before .before .before .before .before .before .before .before .before .before .before .before .before .before))) (c .before .before .ancestor-from .ensures _ ∙ risen (c .before .before .before .before .before .before .before .before .before .before .before .before .before .before .before .before .before .before .before .before .before .before .before) _) ∙ size-inside _ (lent (c .before .before .before .before .before .before .before .before .before .before .before .before .before .before .before .before .before .before .before .before .before .before .before)) (on-a (c .before .before .before .before .before .before .before .before .before .before .before .before .before .before .before .before .before .before .before .before .before .before .before)) (on-b (c .before .before .before .before .before .before .before .before .before .before .before .before .before .before .before .before .before .before .before .before .before .before .before)) (sym (c .before .before .before .before .before .before .before .before .before .before .before .before .before .before .before .size-sound .ensures) ∙ not-false _ (c .before .before .before .before .before .before .before .before .before .before .before .before .before .before .if1 .left)) (c .before .before .before .before .before .before .before .before .before .before .before .if2 .left) (c .before .before .before .before .before .before .before .before .if3 .left) (c .before .before .before .before .before .if4 .left))
 
 without-child-requires : tie.Need-without-child-requires
-without-child-requires c κs = record { id = c .before .before .before .before .before .before .before .before .before .before .before .before .before .before .before .before .before .before .before .before .before .before .before .before .pre .even .id; size = c .before .before .before .before .before .before .before .before .before .before .before .before .before .before .before .before .before .before .before .before .before .before .before .before .pre .size; vertex = found-below _ _ _ _ _ _ (sym (c .before .before .before .ancestor-from .ensures []) ∙ c .before .found .given .1) }
+without-child-requires c κs = record { id = c .before .before .before .before .before .before .before .before .before .before .before .before .before .before .before .before .before .before .before .before .before .before .before .before .pre .even .id; size = c .before .before .before .before .before .before .before .before .before .before .before .before .before .before .before .before .before .before .before .before .before .before .before .before .pre .size; vertex = found-below (log2 (length (c .before .before .before .before .before .before .before .before .before .before .before .before .before .before .before .before .before .before .before .before .before .before .before .before .args .parent .now))) (length (c .before .before .before .before .before .before .before .before .before .before .before .before .before .before .before .before .before .before .before .before .before .before .before .before .args .parent .now)) (lent (c .before .before .before .before .before .before .before .before .before .before .before .before .before .before .before .before .before .before .before .before .before .before .before .before)) (c .before .before .before .before .before .before .before .before .before .before .before .before .before .before .before .before .before .before .before .before .before .before .before .before .args .a) (c .before .before .before .before .before .before .before .before .before .before .before .before .before .before .before .before .before .before .before .before .before .before .before .before .args .a .depth - c .before .before .before .before .before .before .before .before .before .before .before .before .before .before .before .before .before .before .before .before .before .before .before .before .args .b .depth - 1) _ (sym (c .before .before .before .ancestor-from .ensures (c .before .before .before .before .before .before .before .before .before .before .before .before .before .before .before .before .before .before .before .before .before .before .before .before .args .size .now)) ∙ c .before .found .given .1) }
 
 returns-6 : tie.Need-returns-6
-returns-6 c = c .without-child .ensures (c .before .before .before .before .before .before .before .before .before .before .before .before .before .before .before .before .before .before .before .before .before .before .before .before .before .args .parent .now) (c .before .before .before .before .before .before .before .before .before .before .before .before .before .before .before .before .before .before .before .before .before .before .before .before .before .args .depth .now) (c .before .before .before .before .before .before .before .before .before .before .before .before .before .before .before .before .before .before .before .before .before .before .before .before .before .args .head .now) (c .before .before .before .before .before .before .before .before .before .before .before .before .before .before .before .before .before .before .before .before .before .before .before .before .before .args .order .now) ∙ (ap (withoutChild _ (lent (c .before .before .before .before .before .before .before .before .before .before .before .before .before .before .before .before .before .before .before .before .before .before .before .before .before))) (sym (c .before .before .found .given .1) ∙ (c .before .before .before .before .ancestor-from .ensures _ ∙ rise-from _ (lent (c .before .before .before .before .before .before .before .before .before .before .before .before .before .before .before .before .before .before .before .before .before .before .before .before .before)) _ _ (on-a (c .before .before .before .before .before .before .before .before .before .before .before .before .before .before .before .before .before .before .before .before .before .before .before .before .before)))) ∙ size-inside _ (lent (c .before .before .before .before .before .before .before .before .before .before .before .before .before .before .before .before .before .before .before .before .before .before .before .before .before)) (on-a (c .before .before .before .before .before .before .before .before .before .before .before .before .before .before .before .before .before .before .before .before .before .before .before .before .before)) (on-b (c .before .before .before .before .before .before .before .before .before .before .before .before .before .before .before .before .before .before .before .before .before .before .before .before .before)) (sym (c .before .before .before .before .before .before .before .before .before .before .before .before .before .before .before .before .before .size-sound .ensures) ∙ not-false _ (c .before .before .before .before .before .before .before .before .before .before .before .before .before .before .before .before .if1 .left)) (c .before .before .before .before .before .before .before .before .before .before .before .before .before .if2 .left) (c .before .before .before .before .before .before .before .before .before .before .if3 .left) (c .before .before .before .before .before .before .before .if4 .left))
+returns-6 c = c .without-child .ensures (c .before .before .before .before .before .before .before .before .before .before .before .before .before .before .before .before .before .before .before .before .before .before .before .before .before .args .parent .now) (c .before .before .before .before .before .before .before .before .before .before .before .before .before .before .before .before .before .before .before .before .before .before .before .before .before .args .depth .now) (c .before .before .before .before .before .before .before .before .before .before .before .before .before .before .before .before .before .before .before .before .before .before .before .before .before .args .head .now) (c .before .before .before .before .before .before .before .before .before .before .before .before .before .before .before .before .before .before .before .before .before .before .before .before .before .args .order .now) ∙ (ap (withoutChild _ (lent (c .before .before .before .before .before .before .before .before .before .before .before .before .before .before .before .before .before .before .before .before .before .before .before .before .before))) (sym (c .before .before .found .given .1) ∙ (c .before .before .before .before .ancestor-from .ensures _ ∙ risen (c .before .before .before .before .before .before .before .before .before .before .before .before .before .before .before .before .before .before .before .before .before .before .before .before .before) _)) ∙ size-inside _ (lent (c .before .before .before .before .before .before .before .before .before .before .before .before .before .before .before .before .before .before .before .before .before .before .before .before .before)) (on-a (c .before .before .before .before .before .before .before .before .before .before .before .before .before .before .before .before .before .before .before .before .before .before .before .before .before)) (on-b (c .before .before .before .before .before .before .before .before .before .before .before .before .before .before .before .before .before .before .before .before .before .before .before .before .before)) (sym (c .before .before .before .before .before .before .before .before .before .before .before .before .before .before .before .before .before .size-sound .ensures) ∙ not-false _ (c .before .before .before .before .before .before .before .before .before .before .before .before .before .before .before .before .if1 .left)) (c .before .before .before .before .before .before .before .before .before .before .before .before .before .if2 .left) (c .before .before .before .before .before .before .before .before .before .before .if3 .left) (c .before .before .before .before .before .before .before .if4 .left))
 
 pub re-rooted-size-spec : {M : Type 1} → statement M
 re-rooted-size-spec =

@@ -1,23 +1,27 @@
--- `sizes::subtree_size` meets its contract: it stands on r and on v.
+-- `sizes::subtree_size` meets its contract: both vertices must be sound; a vertex that is the root has them all.
 use borrow.Author.Needs.{needs}
 use Rattle.queries.proofs.sizes.subtree_size.Statement.{statement}
 use Rattle.queries.proofs.sizes.subtree_size.Tie as tie
+use borrow.Author.Tests.{not-true, not-false}
 use mathlib.Core.Path.{sym, _∙_}
 use mathlib.Core.List.{[], _∷_}
 use Rattle.tables.specs.Tables.{Six, six}
+use native.Mathlib.Omega.{arith}
 use Rattle.climb.specs.declared.answers.Answer.the-variants.{Refused}
 use Rattle.climb.proofs.Passed.{Passed, verdict-passed, verdict-refused, answered, lengths, first-below, others}
-use Rattle.climb.proofs.Soundness.{stood-vertex}
+use Rattle.climb.proofs.Soundness.{stood-vertex, stood-again}
+use Rattle.climb.proofs.Reaching.{stood-on, stood-off}
 use Rattle.queries.proofs.Counting.{size-off-r, size-off-v, size-whole, size-other}
-use native.Mathlib.Omega.{arith}
-use Rattle.climb.proofs.Soundness.{stood-again}
 
 abbrev lent : tie.Start → Six
 lent b = six (b .args .parent .now) (b .args .depth .now) (b .args .head .now) (b .args .id .now) (b .args .order .now) (b .args .size .now)
 
+abbrev start : tie.After-enum-told → tie.Start
+start c = c .before .before .before .before .before .before .before .before .before .before
+
 -- the tests before the query were passed
-passed : (c : tie.After-enum-told) → Passed (lent (c .before .before .before .before .before .before .before .before .before .before)) (c .before .before .before .before .before .before .before .before .before .before .args .r ∷ c .before .before .before .before .before .before .before .before .before .before .args .v ∷ [])
-passed c = verdict-passed (lent (c .before .before .before .before .before .before .before .before .before .before)) (c .before .before .before .before .before .before .before .before .before .before .args .r ∷ c .before .before .before .before .before .before .before .before .before .before .args .v ∷ []) (sym (c .before .before .asked .ensures) ∙ c .enum-told .given .1)
+passed : (c : tie.After-enum-told) → Passed (lent (start c)) (start c .args .r ∷ start c .args .v ∷ [])
+passed c = verdict-passed (lent (start c)) (start c .args .r ∷ start c .args .v ∷ []) (sym (c .before .before .asked .ensures) ∙ c .enum-told .given .1)
 
 slice-aggregate-asked : tie.Need-slice-aggregate-asked
 slice-aggregate-asked c = search needs
@@ -37,42 +41,23 @@ enum-told c = search needs
 stand-requires : tie.Need-stand-requires
 stand-requires c κs = record { even = lengths (passed c) .even; vertex = first-below (passed c) }
 
-enum-known-a : tie.Need-enum-known-a
-enum-known-a c = search needs
-
-enum-told-2 : tie.Need-enum-told-2
-enum-told-2 c = search needs
-
 returns-2 : tie.Need-returns-2
-returns-2 c = answered (passed (c .before .before .before)) Refused (size-off-r _ _ _ _ (sym (c .before .before .stand .ensures _ _) ∙ c .enum-told2 .given .1))
+returns-2 c = answered (passed (c .before .before .before)) Refused (size-off-r _ _ _ _ (stood-off _ _ _ _ (c .before .before .stand .ensures) (not-true _ (c .if1 .taken)) _ _))
 
 stand-requires-2 : tie.Need-stand-requires-2
-stand-requires-2 c κs = record { even = lengths (passed (c .before .before .before .before)) .even; vertex = first-below (others (passed (c .before .before .before .before))) }
-
-enum-known-b : tie.Need-enum-known-b
-enum-known-b c = search needs
-
-enum-told-3 : tie.Need-enum-told-3
-enum-told-3 c = search needs
+stand-requires-2 c κs = record { even = lengths (passed (c .before .before .before)) .even; vertex = first-below (others (passed (c .before .before .before))) }
 
 returns-3 : tie.Need-returns-3
-returns-3 c = answered (passed (c .before .before .before .before .before .before .before)) Refused (size-off-v _ _ _ _ (sym (c .before .before .before .before .before .before .stand .ensures _ _) ∙ c .before .before .before .before .a .given .1) (sym (c .before .before .stand2 .ensures _ _) ∙ c .enum-told3 .given .1))
+returns-3 c = answered (passed (c .before .before .before .before .before .before)) Refused (size-off-v _ _ _ _ (stood-on _ _ _ _ (c .before .before .before .before .before .stand .ensures) (not-false _ (c .before .before .before .if1 .left)) _ _) (stood-off _ _ _ _ (c .before .before .stand2 .ensures) (not-true _ (c .if2 .taken)) _ _))
 
 returns-4 : tie.Need-returns-4
-returns-4 c = answered (passed (c .before .before .before .before .before .before .before .before .before)) Refused (size-whole _ _ _ _ (sym (c .before .before .before .before .before .before .before .before .stand .ensures _ _) ∙ c .before .before .before .before .before .before .a .given .1) (sym (c .before .before .before .before .stand2 .ensures _ _) ∙ c .before .before .b .given .1) (c .if1 .taken))
+returns-4 c = answered (passed (c .before .before .before .before .before .before .before)) Refused (size-whole _ _ _ _ (stood-on _ _ _ _ (c .before .before .before .before .before .before .stand .ensures) (not-false _ (c .before .before .before .before .if1 .left)) _ _) (stood-on _ _ _ _ (c .before .before .before .stand2 .ensures) (not-false _ (c .before .if2 .left)) _ _) (c .if3 .taken))
 
 re-rooted-size-requires : tie.Need-re-rooted-size-requires
-re-rooted-size-requires c κs = record {
-  even = lengths (passed (c .before .before .before .before .before .before .before .before .before)) .even;
-  order = lengths (passed (c .before .before .before .before .before .before .before .before .before)) .order;
-  size = lengths (passed (c .before .before .before .before .before .before .before .before .before)) .size;
-  below = omega (arith, first-below (others (passed (c .before .before .before .before .before .before .before .before .before))), stood-vertex _ _ _ (sym (c .before .before .before .before .stand2 .ensures [] []) ∙ c .before .before .b .given .1));
-  on-a = λ o s. stood-again _ _ _ (sym (c .before .before .before .before .before .before .before .before .stand .ensures o s) ∙ c .before .before .before .before .before .before .a .given .1);
-  on-b = λ o s. stood-again _ _ _ (sym (c .before .before .before .before .stand2 .ensures o s) ∙ c .before .before .b .given .1);
-}
+re-rooted-size-requires c κs = record { even = lengths (passed (c .before .before .before .before .before .before .before)) .even; order = lengths (passed (c .before .before .before .before .before .before .before)) .order; size = lengths (passed (c .before .before .before .before .before .before .before)) .size; below = omega (arith, stood-vertex _ _ _ (stood-on _ _ _ _ (c .before .before .before .stand2 .ensures) (not-false _ (c .before .if2 .left)) [] []), first-below (others (passed (c .before .before .before .before .before .before .before)))); on-a = λ o s. stood-again _ _ _ (stood-on _ _ _ _ (c .before .before .before .before .before .before .stand .ensures) (not-false _ (c .before .before .before .before .if1 .left)) o s); on-b = λ o s. stood-again _ _ _ (stood-on _ _ _ _ (c .before .before .before .stand2 .ensures) (not-false _ (c .before .if2 .left)) o s) }
 
 returns-5 : tie.Need-returns-5
-returns-5 c = answered (passed (c .before .before .before .before .before .before .before .before .before .before)) Refused (c .re-rooted-size .ensures ∙ size-other _ _ _ _ (sym (c .before .before .before .before .before .before .before .before .before .stand .ensures _ _) ∙ c .before .before .before .before .before .before .before .a .given .1) (sym (c .before .before .before .before .before .stand2 .ensures _ _) ∙ c .before .before .before .b .given .1) (c .before .if1 .left))
+returns-5 c = answered (passed (c .before .before .before .before .before .before .before .before)) Refused (c .re-rooted-size .ensures ∙ size-other _ _ _ _ (stood-on _ _ _ _ (c .before .before .before .before .before .before .before .stand .ensures) (not-false _ (c .before .before .before .before .before .if1 .left)) _ _) (stood-on _ _ _ _ (c .before .before .before .before .stand2 .ensures) (not-false _ (c .before .before .if2 .left)) _ _) (c .before .if3 .left))
 
 pub subtree-size-spec : {M : Type 1} → statement M
 subtree-size-spec =
@@ -84,12 +69,8 @@ subtree-size-spec =
     returns
     enum-told
     stand-requires
-    enum-known-a
-    enum-told-2
     returns-2
     stand-requires-2
-    enum-known-b
-    enum-told-3
     returns-3
     returns-4
     re-rooted-size-requires

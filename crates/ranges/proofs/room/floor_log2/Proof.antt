@@ -1,7 +1,6 @@
--- `log::floor_log2` meets its contract: the halvings done and those of what is left are those of n.
-use borrow.Author.Needs.{needs}
-use Rattle.climb.proofs.log.floor_log2.Statement.{statement}
-use Rattle.climb.proofs.log.floor_log2.Tie as tie
+-- `room::floor_log2` meets its contract: the halvings done and those of what is left are those of n.
+use Rattle.ranges.proofs.room.floor_log2.Statement.{statement}
+use Rattle.ranges.proofs.room.floor_log2.Tie as tie
 use Prim.Native.Nat.{_≤_, _+_}
 use mathlib.Core.Path.{_≡_}
 use native.Mathlib.Omega.{arith}
@@ -14,14 +13,11 @@ Inv-loop n left₀ count₀ left count = (count + left ≤ n) × (count + log2 l
 abbrev μ-loop : tie.MeasureT-loop
 μ-loop n left₀ count₀ left count = left
 
-by-fours-requires : tie.Need-by-fours-requires Inv-loop μ-loop
-by-fours-requires c κs = search needs
-
 loop-holds : tie.Need-loop-holds Inv-loop μ-loop
-loop-holds c = (c .by-fours .ensures .fits, c .by-fours .ensures .together)
+loop-holds c = omega arith
 
 add-count : tie.Need-add-count Inv-loop μ-loop
-add-count c = omega (arith, c .before .before .before .fits .n)
+add-count c = omega (arith, c .before .before .fits .n)
 
 loop-less : tie.Need-loop-less Inv-loop μ-loop
 loop-less c = omega arith
@@ -34,5 +30,4 @@ returns c = omega (arith, log2-small (c .before .loop .left) (omega arith))
 
 pub floor-log2-spec : {M : Type 1} → statement M
 floor-log2-spec =
-    tie.close
-    (tie.spec Inv-loop μ-loop by-fours-requires loop-holds add-count loop-less loop-again returns)
+    tie.close (tie.spec Inv-loop μ-loop loop-holds add-count loop-less loop-again returns)
