@@ -5,11 +5,11 @@ use mathlib.Core.Bool.{Bool, true, false, not, true≢false}
 use mathlib.Core.List.{List, _∷_}
 use lib.Dec.{eqb}
 use Rattle.sums.specs.Sum.{howMany}
+use Rattle.sums.proofs.Images.{howMany-same}
 use Rattle.paths.specs.Walk.{In}
 use Rattle.paths.specs.Route.{ptail, On}
 use Rattle.centroid.specs.Components.{every, inPart, Halves, CentroidFrom}
 use Rattle.centroid.proofs.Tests.{every-in, in-every, other-true, other-ne, not-passed, passed-not-failed}
-use Rattle.centroid.proofs.Images.{howMany-same}
 
 -- the path from u to w avoids v
 abbrev pub avoids : (way : ℕ → ℕ → List ℕ) → ℕ → ℕ → ℕ → Bool

@@ -10,6 +10,7 @@ use lib.Dec.{eqb}
 use lib.ListN.{length}
 use Rattle.sums.specs.Sum.{at, tally, howMany}
 use Rattle.sums.proofs.Sums.{equal-or-not}
+use Rattle.sums.proofs.Images.{sum-image, howMany-le, howMany-apart, howMany-all}
 use Rattle.paths.specs.Walk.{In, Stands, From}
 use Rattle.paths.specs.Rooted.{Spans}
 use Rattle.paths.specs.Route.{ptail, On}
@@ -17,13 +18,12 @@ use Rattle.paths.proofs.Canon.{ptail-same}
 use Rattle.paths.proofs.Turn.{on-turn}
 use Rattle.paths.proofs.Cut.{cover, on-last-part}
 use Rattle.paths.proofs.Unique.{path-simple}
-use Rattle.visit.proofs.Positions.{in-at}
+use Rattle.paths.proofs.Listed.{in-at}
 use Rattle.centroid.specs.Components.{every, inPart, Halves, CentroidFrom}
 use Rattle.centroid.specs.Search.{joinedBy, Spread, Hangs, Heavy}
 use Rattle.centroid.proofs.Tests.{every-next, other-true, not-passed}
 use Rattle.centroid.proofs.Classes.{joined-on, joined-self, joined-turn, joined-part}
 use Rattle.centroid.proofs.Between.{next-on, on-or-not, linked-ne, before-beyond, beyond-longer, beyond-next}
-use Rattle.centroid.proofs.Images.{sum-image, howMany-le, howMany-apart, howMany-all}
 use Rattle.centroid.proofs.Avoiding.{avoids-off, off-avoids, meets, on-meets, off-meets, meets-on, part-avoids, in-part, out-part}
 
 module _ {n : ℕ} {A : ℕ → List ℕ} {par dep : ℕ → ℕ} (S : Spans n (Stands A) 0 par dep) {g : ℕ → Bool} {s : ℕ} {q p : ℕ → ℕ} {t : ℕ}

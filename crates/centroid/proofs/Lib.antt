@@ -6,7 +6,6 @@ pub mod Living
 pub mod Entering
 pub mod Handing
 pub mod Walking
-pub mod Images
 pub mod Avoiding
 pub mod Halving
 pub mod Finding

@@ -8,6 +8,7 @@ use lib.Dec.{ltb, leb}
 use borrow.Author.Tests.{lt-ltb, le-ltb, le-leb, leb-true, leb-false}
 use Rattle.sums.specs.Sum.{tally, howMany}
 use Rattle.sums.proofs.Sums.{equal-or-not, sum-ext, sum-add, sum-ones}
+use Rattle.sums.proofs.Images.{few-pass}
 use Rattle.paths.specs.Walk.{In, Stands}
 use Rattle.paths.specs.Rooted.{Spans}
 use Rattle.paths.specs.Route.{ptail}
@@ -16,7 +17,6 @@ use Rattle.centroid.specs.Decomposition.{Began, first, next, CentroidAt}
 use Rattle.centroid.specs.Search.{joinedBy}
 use Rattle.centroid.specs.Parting.{Parting}
 use Rattle.centroid.proofs.Classes.{joined-self, joined-same}
-use Rattle.centroid.proofs.Images.{few-pass}
 use Rattle.centroid.proofs.Avoiding.{centroid-same}
 
 -- a vertex is removed or left

@@ -15,7 +15,6 @@ use Rattle.paths.specs.Route.{ptail, On}
 use Rattle.paths.proofs.Listed.{out-not}
 use Rattle.paths.proofs.Steps.{on-below, path-once}
 use Rattle.centroid.specs.Components.{CentroidFrom}
-use Rattle.centroid.specs.Decomposition as decomposition
 use Rattle.centroid.specs.Search.{joinedBy}
 use Rattle.centroid.specs.Parting.{Pends, first, next, Entry, Parting}
 use Rattle.centroid.proofs.Classes.{joined-on, on-joined, joined-self, joined-first, joined-last, joined-turn, joined-trans, joined-part, joined-weaker}

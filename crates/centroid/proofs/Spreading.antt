@@ -13,11 +13,10 @@ use Rattle.sums.proofs.Pigeon.{Injective, injective-le}
 use Rattle.paths.specs.Walk.{In, NoDup, Stands}
 use Rattle.paths.specs.Rooted.{Spans}
 use Rattle.paths.specs.Route.{ptail, On}
-use Rattle.paths.proofs.Listed.{out-not}
+use Rattle.paths.proofs.Listed.{out-not, at-in}
 use Rattle.paths.proofs.Canon.{ptail-same}
 use Rattle.paths.proofs.Steps.{on-same}
 use Rattle.visit.proofs.Growing.{upd, upd-here, upd-there}
-use Rattle.visit.proofs.Positions.{at-in}
 use Rattle.centroid.specs.Search.{Spread}
 use Rattle.centroid.proofs.Tests.{passed-not-failed}
 use Rattle.centroid.proofs.Between.{Linked, linked-ne, linked-next, between-both}

@@ -13,7 +13,7 @@ use Rattle.sums.proofs.Sums.{equal-or-not}
 use Rattle.paths.specs.Walk.{In, NoDup, Stands}
 use Rattle.paths.specs.Rooted.{Spans}
 use Rattle.paths.specs.Route.{ptail}
-use Rattle.visit.proofs.Positions.{in-at}
+use Rattle.paths.proofs.Listed.{in-at}
 use Rattle.centroid.specs.Components.{CentroidFrom}
 use Rattle.centroid.specs.Search.{joinedBy}
 use Rattle.centroid.specs.Parting.{Entry, Parting}

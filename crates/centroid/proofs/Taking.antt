@@ -12,7 +12,7 @@ use Rattle.sums.proofs.Sums.{equal-or-not}
 use Rattle.paths.specs.Walk.{In, Stands}
 use Rattle.paths.specs.Rooted.{Spans}
 use Rattle.paths.specs.Route.{ptail}
-use Rattle.paths.proofs.Listed.{in-below}
+use Rattle.paths.proofs.Listed.{in-below, at-in}
 use Rattle.graph.specs.Lent.{vertices, listOf}
 use Rattle.graph.specs.Marks.{markOf, Marks}
 use Rattle.graph.specs.Work.{Only}
@@ -20,7 +20,6 @@ use Rattle.graph.proofs.Frames.{only-trans, only-wider, at-set-same, at-set-oth
 use Rattle.graph.proofs.Neighbours.{list-below}
 use Rattle.numbering.proofs.Kept.{keep-in, keep-once}
 use Rattle.visit.proofs.Growing.{upd, upd-here, upd-there}
-use Rattle.visit.proofs.Positions.{at-in}
 use Rattle.centroid.specs.Components.{CentroidFrom}
 use Rattle.centroid.specs.Regions.{startAt, parentAt, levelAt, removedFrom, regionsEnd}
 use Rattle.centroid.specs.Search.{live, joinedBy, WalkAsks, Found}

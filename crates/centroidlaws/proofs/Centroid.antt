@@ -1,11 +1,10 @@
--- A component has one centroid from a start, whichever test and whichever ways tell it.
+-- A component has one centroid from a start, whichever test tells it.
 use Prim.Native.Nat.{ℕ, _<_}
 use native.Mathlib.Omega.{arith}
-use mathlib.Core.Path.{_≡_, refl, sym, ap, ap₂, _∙_}
+use mathlib.Core.Path.{_≡_, refl, sym, ap₂, _∙_}
 use mathlib.Core.Bool.{Bool, not}
 use mathlib.Core.List.{List, _∷_}
 use lib.Dec.{eqb}
-use lib.ListN.{length}
 use Rattle.sums.proofs.Sums.{equal-or-not}
 use Rattle.centroid.specs.Components.{every, inPart, Halves, CentroidFrom}
 use Rattle.centroidlaws.proofs.Every.{both, same-many}
@@ -40,19 +39,3 @@ centroid-one n way C C′ same {s} {c} {d} hc hd a b =
     let p = a .nearer d hd (same d hd ∙ b .inside) (λ e. ne (sym e)) back in
     let q = b .nearer c hc (sym (same c hc) ∙ a .inside) ne there in
     absurd (omega arith))
-
--- a centroid is one by other ways and another test
-pub centroid-same :
-    (n : ℕ) (way way′ : ℕ → ℕ → List ℕ) (C C′ : ℕ → Bool) → SameWay n way way′ → SameSet n C C′ → {s c : ℕ} → s < n → c < n
-    → CentroidFrom n way C s c → CentroidFrom n way′ C′ s c
-centroid-same n way way′ C C′ ways same {s} {c} hs hc a = record {
-  inside = sym (same c hc) ∙ a .inside;
-  start-inside = sym (same s hs) ∙ a .start-inside;
-  halves = halves-same n way way′ C C′ ways same c (a .halves);
-  nearer = λ y hy e ne h.
-      let back = halves-same n way′ way C′ C (λ u v hu hv. sym (ways u v hu hv)) (λ x b. sym (same x b)) y h in
-      let l = a .nearer y hy (same y hy ∙ e) ne back in
-      let p = ap length (ways s c hs hc) in
-      let q = ap length (ways s y hs hy) in
-      omega arith;
-}

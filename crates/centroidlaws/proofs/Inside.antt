@@ -1,20 +1,17 @@
--- Which components a vertex lies in: those of its ancestors in the decomposition, which is a rooted tree by its own parents and levels.
+-- Which components a vertex lies in: its own, none of a higher level, and any other exactly if its parent does.
 use Prim.Native.Nat.{ℕ, _≤_, _<_}
 use native.Mathlib.Omega.{arith}
 use native.Mathlib.Decide.{decLe}
-use mathlib.Core.Path.{_≡_, refl, sym, subst, _∙_}
+use mathlib.Core.Path.{_≡_, refl, sym, _∙_}
 use mathlib.Core.Logic.{_≢_, _↔_}
 use mathlib.Core.Bool.{true, false}
 use mathlib.Core.List.{List}
-use Rattle.sums.proofs.Sums.{equal-or-not}
-use Rattle.paths.specs.Rooted.{Rooted, Anc}
+use Rattle.paths.specs.Rooted.{Rooted}
 use Rattle.paths.specs.Route.{ptail}
-use Rattle.paths.proofs.Canon.{root-ind}
-use Rattle.paths.proofs.Above.{anc-refl, anc-up, anc-par}
 use Rattle.centroid.specs.Components.{componentOf}
 use Rattle.centroidlaws.proofs.Every.{same-test, not-passed}
 use Rattle.centroidlaws.proofs.Clear.{Clear, component-clear, clear-turn, clear-join, clear-last}
-use Rattle.centroidlaws.proofs.Parents.{Decomposed, Parent, parent, centroid-above}
+use Rattle.centroidlaws.proofs.Parents.{Decomposed, Parent}
 use Rattle.centroidlaws.proofs.Parts.{one-of-level}
 
 module _ {n : ℕ} {A : ℕ → List ℕ} {par dep up level : ℕ → ℕ} (D : Decomposed n A par dep up level) where
@@ -55,45 +52,3 @@ module _ {n : ℕ} {A : ℕ → List ℕ} {par dep up level : ℕ → ℕ} (D : 
 
       low : (level x ≤ level c → ⊥) → Clear par dep level (level c) (up x) x
       low h y i = let z = P .clear y i in let o = P .one-up in omega arith
-
-  -- the decomposition hangs from the one vertex of level 0
-  pub centroid-tree : (root : ℕ) × Rooted n root up level
-  centroid-tree =
-      let r = centroid-above D 0 (level 0) (D .spans .rooted .root-below) (omega arith) in (
-        r .0,
-        record {
-          root-below = r .1;
-          root-top = r .2;
-          one-root = λ v hv e. one-of-level D hv (r .1) e (r .2) (λ y i. omega arith);
-          par-below = λ v hv p. parent D hv p .1 .below;
-          par-dep = λ v hv p. sym (parent D hv p .1 .one-up);
-        },
-      )
-
-  -- a vertex lies in the component of c exactly if c is the vertex or an ancestor of it
-  pub inside-ancestor : {c x : ℕ} → c < n → x < n → (componentOf (ptail par dep) level c x ≡ true) ↔ Anc up level c x
-  inside-ancestor {c} {x} hc hx = root-ind R P start step x hx
-    where
-      root : ℕ
-      root = centroid-tree .0
-
-      R : Rooted n root up level
-      R = centroid-tree .1
-
-      P : ℕ → Type 0
-      P x = (componentOf (ptail par dep) level c x ≡ true) ↔ Anc up level c x
-
-      same : (x : ℕ) → x < n → c ≡ x → P x
-      same x hx e = (λ t. subst (Anc up level c) e (anc-refl up level c), λ a. subst (λ (z : ℕ). componentOf (ptail par dep) level z x ≡ true) (sym e) (own hx))
-
-      start : P root
-      start =
-          let h = R .root-below in
-          let z = R .root-top in
-          let top : level c ≤ 0 → c ≡ root = λ l. R .one-root c hc (omega arith) in
-          (λ t. same root h (top (let l = lower hc h t in omega arith)) .0 t, λ a. same root h (top (omega arith)) .1 a)
-
-      step : (x : ℕ) → x < n → 0 < level x → P (up x) → P x
-      step x hx p ih = equal-or-not c x (same x hx) (λ ne.
-          let e = as-parent hc hx ne (parent D hx p .1) in
-          (λ t. anc-up R c hx p (ih .0 (sym e ∙ t)), λ a. e ∙ ih .1 (anc-par R c hx ne a)))

@@ -1,4 +1,4 @@
--- Breadth first lists: one is determined by what each vertex leads on to, since that is one step farther; and distances never fall along it.
+-- Breadth first lists: one is determined by what each vertex leads on to, since that is one step farther.
 use Prim.Native.Nat.{ℕ, zero, suc, _+_, _≤_, _<_}
 use native.Mathlib.Omega.{arith}
 use mathlib.Core.Path.{_≡_, refl, sym, ap, subst, _∙_}
@@ -8,7 +8,6 @@ use mathlib.Core.List.{List, [], _∷_, _++_, append-assoc}
 use lib.Dec.{eqb}
 use lib.ListN.{length}
 use borrow.Author.Tests.{eqb-true}
-use Rattle.sums.specs.Sum.{at}
 use Rattle.paths.specs.Walk.{In}
 use Rattle.paths.proofs.Listed.{in-right, in-either}
 use Rattle.numbering.proofs.Kept.{keep-in}
@@ -26,37 +25,6 @@ bound far [] = (0, λ x i. absurd i)
 bound far (y ∷ l) =
     let r = bound far l in
     (suc (far y) + r .0, λ x i. ⊎-elim (λ e. let z = ap far e in omega arith) (λ j. let z = r .1 x j in omega arith) i)
-
--- distances that are d or more and never fall
-abbrev pub Rising : (ℕ → ℕ) → ℕ → List ℕ → Type 0
-Rising far d [] = Unit {0}
-Rising far d (x ∷ l) = (d ≤ far x) × Rising far (far x) l
-
--- a lower bound serves too
-rising-less : (far : ℕ → ℕ) {d e : ℕ} (l : List ℕ) → d ≤ e → Rising far e l → Rising far d l
-rising-less far [] h r = tt
-rising-less far (x ∷ l) h r = (omega arith, r .1)
-
--- entries at distance d may come in front
-rising-append : (far : ℕ → ℕ) (d : ℕ) (a l : List ℕ) → ((x : ℕ) → In x a → far x ≡ d) → Rising far d l → Rising far d (a ++ l)
-rising-append far d [] l h r = r
-rising-append far d (x ∷ a) l h r =
-    let e = h x (inl refl) in
-    (omega arith, subst (λ (m : ℕ). Rising far m (a ++ l)) (sym e) (rising-append far d a l (λ y i. h y (inr i)) r))
-
--- every entry is at distance d or more
-rising-low : (far : ℕ → ℕ) (d : ℕ) (l : List ℕ) → Rising far d l → (j : ℕ) → j < length l → d ≤ far (at l j)
-rising-low far d [] r j h = absurd (omega arith)
-rising-low far d (x ∷ l) r zero h = r .0
-rising-low far d (x ∷ l) r (suc j) h = let z = rising-low far (far x) l (r .1) j (omega arith) in let y = r .0 in omega arith
-
--- what comes later is no nearer
-pub rising-at : (far : ℕ → ℕ) (d : ℕ) (l : List ℕ) → Rising far d l → (i j : ℕ) → i ≤ j → j < length l → far (at l i) ≤ far (at l j)
-rising-at far d [] r i j h b = absurd (omega arith)
-rising-at far d (x ∷ l) r zero zero h b = omega arith
-rising-at far d (x ∷ l) r zero (suc j) h b = rising-low far (far x) l (r .1) j (omega arith)
-rising-at far d (x ∷ l) r (suc i) zero h b = absurd (omega arith)
-rising-at far d (x ∷ l) r (suc i) (suc j) h b = rising-at far (far x) l (r .1) i j (omega arith) (omega arith)
 
 module _ (A : ℕ → List ℕ) (way : ℕ → ℕ → List ℕ) (C : ℕ → Bool) (c : ℕ) where
   -- what a vertex leads on to stands in its list, is in the component, and is one step farther
@@ -119,25 +87,3 @@ module _ (A : ℕ → List ℕ) (way : ℕ → ℕ → List ℕ) (C : ℕ → Bo
       let m′ = bound far q′ in
       after-one (m .0 + m′ .0) 0 (c ∷ []) q q′ b b′
       (λ x i. let z = m .1 x i in (omega arith, omega arith)) (λ x i. let z = m′ .1 x i in (omega arith, omega arith))
-
-  -- behind a front at distance d the distances never fall
-  after-rising : (k d : ℕ) (front q : List ℕ) → After front q → ((x : ℕ) → In x front → length (way c x) ≡ d) → Spread d (d + k) q
-      → Rising (λ x. length (way c x)) d q
-  after-rising zero d front q a f s =
-      subst (Rising (λ x. length (way c x)) d) (sym (empty q (λ x i. let z = s x i in omega arith))) tt
-  after-rising (suc k) d front q a f s =
-      let far : ℕ → ℕ = λ x. length (way c x) in
-      let next : List ℕ = onwards A way C c q in
-      let ih = after-rising k (suc d) (onwards A way C c front) next (after-next front q a)
-      (λ x i. let r = onwards-in front x i in let e = onward-in (r .0) x (r .2) .2 in let g = f (r .0) (r .1) in omega arith)
-      (λ x i. let z = spread-next d (d + suc k) front q a s x i in (z .0, omega arith)) in
-      subst (Rising far d) (sym a) (rising-append far d front next f (rising-less far next (omega arith) ih))
-
-  -- along a breadth first list the distances never fall
-  pub breadth-rising : (q : List ℕ) → Breadth A way C c q → way c c ≡ []
-      → (i j : ℕ) → i ≤ j → j < length q → length (way c (at q i)) ≤ length (way c (at q j))
-  breadth-rising q b e =
-      let far : ℕ → ℕ = λ x. length (way c x) in
-      let m = bound far q in
-      rising-at far 0 q
-      (after-rising (m .0) 0 (c ∷ []) q b (λ x i. ⊎-elim (λ g. ap far g ∙ ap length e) absurd i) (λ x i. let z = m .1 x i in (omega arith, omega arith)))

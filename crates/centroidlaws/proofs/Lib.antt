@@ -10,7 +10,6 @@ pub mod Totals
 pub mod Layers
 pub mod Before
 pub mod Entries
-pub mod Hung
 pub mod SameLists
 pub mod Passed
 pub mod Determined

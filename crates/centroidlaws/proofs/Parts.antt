@@ -47,14 +47,6 @@ module _ {n : ℕ} {A : ℕ → List ℕ} {par dep up level : ℕ → ℕ} (D : 
       go s (first e z) = absurd (omega arith)
       go s (next _ h i z) = omega arith
 
-  -- a vertex of level 0 has none
-  pub top-none : {c : ℕ} → c < n → level c ≡ 0 → up c ≡ noParent
-  top-none {c} hc z = let a = D .centroids c hc in go (a .start) (a .began)
-    where
-      go : (s : ℕ) → Began n A up level c s → up c ≡ noParent
-      go s (first e _) = e
-      go s (next _ h i o) = absurd (omega arith)
-
   -- a vertex other than p that is joined to p in p's component is of a higher level
   pub higher : {p y : ℕ} → p < n → y < n → Clear par dep level (level p) p y → y ≢ p → level p < level y
   higher {p} {y} hp hy cl ne = elim (decLt (level p) (level y)) [

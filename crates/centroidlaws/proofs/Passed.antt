@@ -4,13 +4,13 @@ use native.Mathlib.Omega.{arith}
 use mathlib.Core.Logic.{inl, inr}
 use mathlib.Core.List.{List, [], _∷_, _++_}
 use Rattle.paths.specs.Tree.{Tree}
+use Rattle.paths.proofs.Hung.{tree-hangs}
 use Rattle.graph.specs.Codes.{done}
 use Rattle.graph.specs.Judgement.{Test, First}
 use Rattle.graph.specs.Lent.{vertices, listOf}
 use Rattle.graph.specs.Validation.{graphTests}
 use Rattle.graph.proofs.Neighbours.{list-below}
 use Rattle.centroidlaws.proofs.Before.{Listed}
-use Rattle.centroidlaws.proofs.Hung.{tree-hangs}
 
 -- the tests of a list are all passed
 abbrev pub AllPassed : List Test → Type 0

@@ -1,4 +1,4 @@
--- What holds for the paths of one rooting holds for those of all: a decomposition, and component lists, may be shown for one.
+-- What holds for the paths of one rooting holds for those of all: component lists may be shown for one.
 use Prim.Native.Nat.{ℕ, suc, _+_, _<_}
 use mathlib.Core.Path.{_≡_, refl, ap, ap₂, _∙_}
 use mathlib.Core.Logic.{inl, inr}
@@ -14,10 +14,10 @@ use Rattle.paths.proofs.Listed.{in-below}
 use Rattle.paths.proofs.Unique.{root-free}
 use Rattle.numbering.proofs.Kept.{keep-ext}
 use Rattle.centroid.specs.Components.{every, componentOf}
-use Rattle.centroid.specs.Decomposition.{CentroidAt, DecompositionOf}
+use Rattle.centroid.specs.Decomposition.{DecompositionOf}
 use Rattle.centroid.specs.Lists.{onward, onwards, Breadth, branchOf, joined, ListsOf}
 use Rattle.centroidlaws.proofs.Every.{both}
-use Rattle.centroidlaws.proofs.Centroid.{SameWay, SameSet, centroid-same}
+use Rattle.centroidlaws.proofs.Centroid.{SameWay, SameSet}
 use Rattle.centroidlaws.proofs.Parents.{decomposed}
 use Rattle.centroidlaws.proofs.Before.{Listed}
 use Rattle.centroidlaws.proofs.Entries.{component-around, entries-below}
@@ -27,30 +27,6 @@ use Rattle.centroidlaws.proofs.SameLists.{joined-same}
 component-same : (n : ℕ) (way way′ : ℕ → ℕ → List ℕ) → SameWay n way way′ → (level : ℕ → ℕ) {c : ℕ} → c < n
     → SameSet n (componentOf way level c) (componentOf way′ level c)
 component-same n way way′ ways level {c} hc x hx = ap (λ (l : List ℕ). every (λ y. leb (level c) (level y)) (c ∷ l)) (ways c x hc hx)
-
--- a centroid for one rooting is one for all
-centroid-at : (n : ℕ) (A : ℕ → List ℕ) (way way′ : ℕ → ℕ → List ℕ) → SameWay n way way′ → (up level : ℕ → ℕ) (c : ℕ) → c < n
-    → CentroidAt n A way up level c → CentroidAt n A way′ up level c
-centroid-at n A way way′ ways up level c hc a = record {
-  start = a .start;
-  start-below = a .start-below;
-  began = a .began;
-  centroid = centroid-same n way way′ (componentOf way level c) (componentOf way′ level c) ways
-      (component-same n way way′ ways level hc) (a .start-below) hc (a .centroid);
-}
-
--- a decomposition by the paths of one rooting is the decomposition
-pub decomposition-from :
-    {n : ℕ} {A : ℕ → List ℕ} {par dep : ℕ → ℕ} {up level : List ℕ} → Spans n (Stands A) 0 par dep
-    → length up ≡ n → length level ≡ n
-    → ((c : ℕ) → c < n → CentroidAt n A (ptail par dep) (at up) (at level) c)
-    → DecompositionOf n A up level
-decomposition-from {n} {A} {par} {dep} {up} {level} S e f h = record {
-  up-long = e;
-  level-long = f;
-  centroids = λ par′ dep′ S′ c hc.
-      centroid-at n A (ptail par dep) (ptail par′ dep′) (λ u v hu hv. root-free S S′ hu hv) (at up) (at level) c hc (h c hc);
-}
 
 -- numbers that agree on a list's entries are the same in order
 pub map-same : (f g : ℕ → ℕ) (l : List ℕ) → ((x : ℕ) → In x l → f x ≡ g x) → map f l ≡ map g l

@@ -10,14 +10,13 @@ use Rattle.sums.proofs.Sums.{sum-ext}
 use Rattle.paths.specs.Walk.{Stands}
 use Rattle.paths.specs.Rooted.{Spans}
 use Rattle.paths.specs.Route.{ptail}
-use Rattle.paths.proofs.Canon.{ptail-same}
 use Rattle.centroid.specs.Components.{componentOf}
 use Rattle.centroid.specs.Decomposition.{DecompositionOf}
 use Rattle.centroid.specs.Lists.{Breadth, branchOf, joined, ListsOf}
 use Rattle.centroidlaws.proofs.Parents.{decomposed}
 use Rattle.centroidlaws.proofs.Agreement.{decomposition-one}
 use Rattle.centroidlaws.proofs.Totals.{components-total}
-use Rattle.centroidlaws.proofs.Layers.{breadth-one, breadth-rising}
+use Rattle.centroidlaws.proofs.Layers.{breadth-one}
 use Rattle.centroidlaws.proofs.Before.{Listed}
 use Rattle.centroidlaws.proofs.Entries.{Holds, component-around, breadth-holds}
 
@@ -70,13 +69,6 @@ pub list-holds :
     → (c : ℕ) → c < n → Holds n (componentOf (ptail par dep) (at (L .level)) c) (L .q c)
 list-holds {par = par} {dep = dep} T L c hc =
     breadth-holds T (component-around (decomposed (T .spans) (L .decomposition)) hc) (L .breadth par dep (T .spans) c hc)
-
--- along each list the distances never fall
-pub list-rising :
-    {n : ℕ} {A : ℕ → List ℕ} {par dep : ℕ → ℕ} {l₁ l₂ l₃ l₄ : List ℕ} → Spans n (Stands A) 0 par dep → (L : ListsOf n A l₁ l₂ l₃ l₄)
-    → (c : ℕ) → c < n → (i j : ℕ) → i ≤ j → j < length (L .q c) → length (ptail par dep c (at (L .q c) i)) ≤ length (ptail par dep c (at (L .q c) j))
-list-rising {A = A} {par = par} {dep = dep} S L c hc =
-    breadth-rising A (ptail par dep) (componentOf (ptail par dep) (at (L .level)) c) c (L .q c) (L .breadth par dep S c hc) (ptail-same par dep c)
 
 -- the lists have together the sum of level + 1 entries
 pub lists-total :

@@ -10,10 +10,9 @@ use Rattle.sums.specs.Sum.{at}
 use Rattle.paths.specs.Walk.{In, Stands}
 use Rattle.paths.specs.Rooted.{Spans}
 use Rattle.paths.specs.Route.{ptail}
-use Rattle.paths.proofs.Listed.{in-below}
+use Rattle.paths.proofs.Listed.{in-below, at-in}
 use Rattle.graph.specs.Lent.{listOf}
 use Rattle.graph.specs.Work.{Only}
-use Rattle.visit.proofs.Positions.{at-in}
 use Rattle.centroid.specs.Components.{componentOf}
 use Rattle.centroid.specs.Lists.{onward, branchOf}
 use Rattle.centroid.specs.Regions.{queueFrom, metFrom, queueAt, levelOfAt}

@@ -11,10 +11,8 @@ use Rattle.sums.proofs.Pigeon.{injective-le}
 use Rattle.paths.specs.Walk.{In, NoDup, Below}
 use Rattle.paths.specs.Route.{ptail}
 use Rattle.paths.proofs.Canon.{ptail-same}
-use Rattle.paths.proofs.Listed.{in-below}
+use Rattle.paths.proofs.Listed.{in-below, at-in, nodup-at}
 use Rattle.paths.proofs.Unique.{path-simple}
-use Rattle.visit.proofs.Positions.{at-in}
-use Rattle.hld.proofs.Rising.{nodup-at}
 use Rattle.centroid.specs.Lists.{onwards, Breadth}
 use Rattle.centroidlaws.proofs.Layers.{onward-in, onwards-in, onwards-append}
 use Rattle.centroidlaws.proofs.Before.{Listed}

@@ -28,7 +28,7 @@ use Rattle.pathlaws.proofs.Refusals.{never-nine}
 use Rattle.pathlaws.proofs.ReRooted.{lca-re-rooted}
 use Rattle.readings.proofs.SimpleReadings.{edges-simple, both-simple, simple-last}
 use Rattle.ranges.specs.declared.kinds.Kind.the-variants.{Edges, Both}
-use Rattle.centroidlaws.proofs.Hung.{tree-hangs}
+use Rattle.paths.proofs.Hung.{tree-hangs}
 use Rattle.centroidlaws.proofs.Parts.{no-parent-above}
 use Rattle.demands.specs.Numbers.{OnPath, Entries, Answers}
 use Rattle.demands.proofs.Found.{ranges-of, ranges-there}

@@ -1,5 +1,5 @@
 -- Marks, one bit to a vertex, in 32-bit words: the mark of v is bit v % 32 of the word v / 32 (01, "Expected forms by place").
-use Prim.Native.Nat.{ℕ, _+_, _-_, _/_, _%_, _^_}
+use Prim.Native.Nat.{ℕ, _+_, _/_, _%_, _^_}
 use mathlib.Core.Path.{_≡_}
 use mathlib.Core.Logic.{_≢_}
 use mathlib.Core.List.{List}

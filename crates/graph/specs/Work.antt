@@ -1,6 +1,7 @@
--- Work: which part of it a function may write, and which region holds what.
+-- Work: which part of it a function may write, and what a store changes.
 use Prim.Native.Nat.{ℕ, _≤_, _<_}
 use mathlib.Core.Path.{_≡_}
+use mathlib.Core.Logic.{_≢_}
 use mathlib.Core.List.{List}
 use lib.ListN.{length}
 use Rattle.sums.specs.Sum.{at}
@@ -15,3 +16,8 @@ pub record Only (a e : ℕ) (w w′ : List ℕ) : Type 0 where
 pub record Zeroed (a e : ℕ) (w w′ : List ℕ) : Type 0 where
   pub only : Only a e w w′
   pub zero : (i : ℕ) → a ≤ i → i < e → at w′ i ≡ 0
+
+-- a store: f′ has x at j, and is f at the other numbers below n
+pub record Put (n j x : ℕ) (f f′ : ℕ → ℕ) : Type 0 where
+  pub here : f′ j ≡ x
+  pub there : (k : ℕ) → k < n → k ≢ j → f′ k ≡ f k

@@ -11,11 +11,11 @@ use Rattle.paths.specs.Tree.{Tree}
 use Rattle.numbering.specs.Numbering.{total}
 use Rattle.numbering.proofs.Kept.{keep-ext}
 use Rattle.passes.specs.Passes.{from, run, heavyOf, region, Weighed, Ranked, WeighAsks, WeighAnswers, NumberAsks, NumberAnswers}
+use Rattle.passes.proofs.Runs.{from-in}
 use Rattle.visit.specs.Visit.{Visited, queueIn, upIn}
 use Rattle.visit.proofs.Positions.{Places, places, visited-same}
 use Rattle.tables.specs.Tables.{Six, Long, TablesOf}
 use Rattle.scatter.specs.Scatter.{ScatterAsks, Filled}
-use Rattle.hld.proofs.Rising.{from-in}
 use Rattle.hld.proofs.Tabled.{Holds, table-span, table-arrangement}
 use Rattle.hld.proofs.Ranks.{tops-below, ranks-injective, ranks-below}
 use Rattle.scatter.proofs.Filling.{parent-first, parent-later}

@@ -1,5 +1,5 @@
 -- From positions to vertices: rule 1's order, sizes and numbers are carried over by the vertex at each position.
-use Prim.Native.Nat.{ℕ, _+_, _-_}
+use Prim.Native.Nat.{ℕ, _+_}
 use native.Mathlib.Omega.{arith}
 use mathlib.Core.Path.{_≡_, refl, sym, ap, ap₂, _∙_, subst}
 use mathlib.Core.Logic.{inl, inr, by-cases}

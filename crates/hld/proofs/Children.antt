@@ -12,13 +12,14 @@ use Rattle.sums.proofs.Sums.{equal-or-not}
 use Rattle.paths.specs.Walk.{In, NoDup, Below}
 use Rattle.paths.specs.Rooted.{Child}
 use Rattle.paths.specs.Route.{child?}
-use Rattle.paths.proofs.Listed.{in-below}
+use Rattle.paths.proofs.Listed.{in-below, at-in, nodup-at}
+use Rattle.paths.proofs.Rising.{Rises, above-in, above-of, rises-same}
 use Rattle.numbering.specs.RuleOne.{keep, childrenOf}
-use Rattle.numbering.proofs.Kept.{keep-in, child-true}
+use Rattle.numbering.proofs.Kept.{keep-in, keep-rises, child-true}
 use Rattle.passes.specs.Passes.{from, run}
+use Rattle.passes.proofs.Runs.{from-in, from-rises, keep-places}
 use Rattle.visit.specs.Visit.{Visited}
-use Rattle.visit.proofs.Positions.{Places, at-in}
-use Rattle.hld.proofs.Rising.{Rises, above-in, above-of, rises-same, from-in, from-rises, keep-rises, keep-places, nodup-at}
+use Rattle.visit.proofs.Positions.{Places}
 
 -- what stands in a mapped list
 pub map-in : (f : ℕ → ℕ) (l : List ℕ) (y : ℕ) → In y (map f l) → (x : ℕ) × In x l × (f x ≡ y)

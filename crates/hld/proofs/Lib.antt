@@ -1,4 +1,3 @@
-pub mod Rising
 pub mod Children
 pub mod Carried
 pub mod Tabled

@@ -1,5 +1,5 @@
 -- A visit that met every vertex, its positions weighed and ranked, and the tables that hold this by vertex: a numbering by rule 1.
-use Prim.Native.Nat.{ℕ, suc, _+_, _-_, _≤_, _<_}
+use Prim.Native.Nat.{ℕ, suc, _+_, _≤_, _<_}
 use native.Mathlib.Omega.{arith}
 use mathlib.Core.Path.{_≡_, sym, ap, _∙_, subst}
 use mathlib.Core.List.{List, [], _∷_, map}
@@ -7,7 +7,8 @@ use Rattle.sums.proofs.Sums.{equal-or-not}
 use Rattle.paths.specs.Walk.{In, Stands, NoDup, Below}
 use Rattle.paths.specs.Tree.{Tree}
 use Rattle.paths.specs.Rooted.{Rooted, Spans}
-use Rattle.paths.proofs.Listed.{in-below}
+use Rattle.paths.proofs.Listed.{out-of, in-below, at-in}
+use Rattle.paths.proofs.Rising.{Rises, above-in}
 use Rattle.paths.proofs.Links.{tree-span}
 use Rattle.numbering.specs.Numbering.{total, Numbered, Arranged, Arrangement}
 use Rattle.numbering.specs.RuleOne.{heaviest, without, childrenOf, byRuleOne}
@@ -17,7 +18,6 @@ use Rattle.numbering.proofs.ByRule.{HeadsBy, by-rule-in, by-rule-arranged}
 use Rattle.passes.specs.Passes.{run, heavyOf, Backwards, Weighed, Ranked}
 use Rattle.visit.specs.Visit.{Visited}
 use Rattle.visit.proofs.Positions.{Places}
-use Rattle.hld.proofs.Rising.{Rises, above-in}
 use Rattle.hld.proofs.Children.{Reads, run-in, run-rises, children-run, map-in}
 use Rattle.hld.proofs.Carried.{by-rule-map, heaviest-map, total-map, numbered-map, backwards-numbered}
 
@@ -32,7 +32,7 @@ pub record Holds (n : ℕ) (q p s id top deep : ℕ → ℕ) (par dep head numbe
 -- a rising list has no repeats
 rises-once : (l : List ℕ) → Rises l → NoDup l
 rises-once [] r = tt
-rises-once (x ∷ l) r = (Rattle.paths.proofs.Listed.out-of x l (λ i. (let k = above-in x x l (r .0) i in omega arith)), rises-once l (r .1))
+rises-once (x ∷ l) r = (out-of x l (λ i. (let k = above-in x x l (r .0) i in omega arith)), rises-once l (r .1))
 
 module _ {n : ℕ} (A : ℕ → List ℕ) {root : ℕ} {q p e g : ℕ → ℕ} (vis : Visited n A root q p e n) (pl : Places n q g) (tree : Tree n A)
     (below : (u : ℕ) → u < n → Below n (A u)) {s h id top deep : ℕ → ℕ} (W : Weighed n p s h) (K : Ranked n p s h id top deep)
@@ -52,9 +52,6 @@ module _ {n : ℕ} (A : ℕ → List ℕ) {root : ℕ} {q p e g : ℕ → ℕ} (
   -- a vertex by its position
   home : (v : ℕ) → v < n → q (g v) ≡ v
   home v hv = pl .back v hv
-
-  first-vertex : g root ≡ 0
-  first-vertex = ap g (sym (vis .start)) ∙ pl .forth 0 (vis .some)
 
   later : (v : ℕ) → v < n → 0 < dep v → 0 < g v
   later v hv d =
@@ -87,7 +84,7 @@ module _ {n : ℕ} (A : ℕ → List ℕ) {root : ℕ} {q p e g : ℕ → ℕ} (
       let b = pl .below v hv in
       subst (λ (x : ℕ). In v (A x)) (sym (T .par-at (g v) l b) ∙ ap par (home v hv))
       (subst (λ (x : ℕ). In x (A (q (p (g v))))) (vis .entry (g v) l b ∙ home v hv)
-      (Rattle.visit.proofs.Positions.at-in (A (q (p (g v)))) (e (g v)) (vis .place (g v) l b)))
+      (at-in (A (q (p (g v)))) (e (g v)) (vis .place (g v) l b)))
 
   pub table-span : Spans n (Stands A) root par dep
   table-span = tree-span table-rooted A tree held

@@ -1,5 +1,5 @@
 -- The build from its tests to its answer.
-use Prim.Native.Nat.{ℕ, _-_, _*_, _≤_, _<_, _^_}
+use Prim.Native.Nat.{ℕ, _*_, _≤_, _<_, _^_}
 use native.Mathlib.Omega.{arith}
 use mathlib.Core.Path.{_≡_, refl, subst}
 use mathlib.Core.Logic.{_≢_, inl, inr}

@@ -1,9 +1,9 @@
--- The heaviest of a list is its first entry of greatest size.
+-- The heaviest of a list is an entry of greatest size.
 use Prim.Native.Nat.{ℕ, _≤_, _<_}
 use native.Mathlib.Omega.{arith}
 use native.Mathlib.Decide.{decLt}
 use mathlib.Core.Path.{_≡_, refl, sym, ap, _∙_}
-use mathlib.Core.Logic.{_⊎_, inl, inr, ⊎-elim}
+use mathlib.Core.Logic.{inl, inr, ⊎-elim}
 use mathlib.Core.List.{List, [], _∷_}
 use borrow.Author.Tests.{lt-ltb, le-ltb}
 use Rattle.paths.specs.Walk.{In}
@@ -43,43 +43,6 @@ heaviest-most size x (y ∷ l) v i = go (decLt (size x) (size y)) (heaviest-most
     go (no h) f g (inl e) = rw (heaviest-stays size x y l (omega arith)) (f v (inl e))
     go (no h) f g (inr (inl e)) = let z = ap size e in let m = f x (inl refl) in rw (heaviest-stays size x y l (omega arith)) (omega arith)
     go (no h) f g (inr (inr k)) = rw (heaviest-stays size x y l (omega arith)) (f v (inr k))
-
--- h stands in the list, and each entry before it is lighter
-abbrev pub First : (ℕ → ℕ) → ℕ → List ℕ → Type 0
-First size h [] = ⊥
-First size h (y ∷ l) = (h ≡ y) ⊎ ((size y < size h) × First size h l)
-
--- each entry before the heaviest is lighter
-pub heaviest-first : (size : ℕ → ℕ) (x : ℕ) (l : List ℕ) → First size (heaviest size x l) (x ∷ l)
-heaviest-first size x [] = inl refl
-heaviest-first size x (y ∷ l) = go (decLt (size x) (size y)) (heaviest-first size x l) (heaviest-first size y l)
-  where
-    go : Dec (size x < size y) → First size (heaviest size x l) (x ∷ l) → First size (heaviest size y l) (y ∷ l)
-        → First size (heaviest size x (y ∷ l)) (x ∷ (y ∷ l))
-    go (yes h) f g = let m = heaviest-most size y l y (inl refl) in rw (heaviest-next size x y l h) (inr (omega arith, g))
-    go (no h) (inl e) g = rw (heaviest-stays size x y l (omega arith)) (inl e)
-    go (no h) (inr p) g = rw (heaviest-stays size x y l (omega arith)) (inr (p .0, inr (omega arith, p .1)))
-
--- what is first in a list stands in it
-first-in : (size : ℕ → ℕ) (h : ℕ) (l : List ℕ) → First size h l → In h l
-first-in size h [] f = f
-first-in size h (y ∷ l) (inl e) = inl e
-first-in size h (y ∷ l) (inr f) = inr (first-in size h l (f .1))
-
--- there is one first entry of a size
-first-unique : (size : ℕ → ℕ) (h k : ℕ) (l : List ℕ) → First size h l → First size k l → size h ≡ size k → h ≡ k
-first-unique size h k [] f g s = absurd f
-first-unique size h k (y ∷ l) (inl e) (inl i) s = e ∙ sym i
-first-unique size h k (y ∷ l) (inl e) (inr g) s = let z = ap size e in absurd (omega arith)
-first-unique size h k (y ∷ l) (inr f) (inl i) s = let z = ap size i in absurd (omega arith)
-first-unique size h k (y ∷ l) (inr f) (inr g) s = first-unique size h k l (f .1) (g .1) s
-
--- an entry that none is heavier than, and each before it lighter, is the heaviest
-pub heaviest-unique : (size : ℕ → ℕ) (x : ℕ) (l : List ℕ) (h : ℕ) → First size h (x ∷ l) → ((v : ℕ) → In v (x ∷ l) → size v ≤ size h) → h ≡ heaviest size x l
-heaviest-unique size x l h f most =
-    let a = most (heaviest size x l) (heaviest-in size x l) in
-    let b = heaviest-most size x l h (first-in size h (x ∷ l) f) in
-    first-unique size h (heaviest size x l) (x ∷ l) f (heaviest-first size x l) (omega arith)
 
 -- sizes that agree on a list have the same heaviest entry
 pub heaviest-ext : (size size′ : ℕ → ℕ) (x : ℕ) (l : List ℕ) → ((v : ℕ) → In v (x ∷ l) → size v ≡ size′ v) → heaviest size x l ≡ heaviest size′ x l

@@ -1,4 +1,4 @@
--- Lists filtered, without an entry, or reversed: what stands in them, that they do not repeat, and their sizes together.
+-- Lists filtered, without an entry, or reversed: what stands in them, that they do not repeat or that they rise, and their sizes together.
 use Prim.Native.Nat.{ℕ, _+_}
 use native.Mathlib.Omega.{arith}
 use native.Mathlib.Decide.{ℕ-discrete}
@@ -12,6 +12,7 @@ use Rattle.paths.specs.Walk.{In, Out, NoDup}
 use Rattle.paths.specs.Rooted.{Child}
 use Rattle.paths.specs.Route.{child?}
 use Rattle.paths.proofs.Listed.{out-of, out-not, nodup-snoc}
+use Rattle.paths.proofs.Rising.{Above, Rises, above-in, above-of}
 use Rattle.paths.proofs.Turn.{in-reverse}
 use Rattle.paths.proofs.Links.{child-test, child-none, child-dec}
 use Rattle.numbering.specs.Numbering.{total}
@@ -57,6 +58,18 @@ keep-ext s t (x ∷ l) f = go (t x) refl (keep-ext s t l (λ v h. f v (inr h)))
     go : (b : Bool) → t x ≡ b → keep s l ≡ keep t l → keep s (x ∷ l) ≡ keep t (x ∷ l)
     go true e ih = rw (keep-true s x l (f x (inl refl) ∙ e), keep-true t x l e, ih)
     go false e ih = rw (keep-false s x l (f x (inl refl) ∙ e), keep-false t x l e, ih)
+
+-- kept entries of a rising list rise
+keep-above : (t : ℕ → Bool) (x : ℕ) (l : List ℕ) → Above x l → Above x (keep t l)
+keep-above t x l a = above-of x (keep t l) (λ y i. above-in x y l a (keep-in t l y .0 i .0))
+
+pub keep-rises : (t : ℕ → Bool) (l : List ℕ) → Rises l → Rises (keep t l)
+keep-rises t [] r = tt
+keep-rises t (x ∷ l) r = cases (t x) refl (keep-rises t l (r .1))
+  where
+    cases : (b : Bool) → t x ≡ b → Rises (keep t l) → Rises (keep t (x ∷ l))
+    cases true e ih = rw (keep-true t x l e) (keep-above t x l (r .0), ih)
+    cases false e ih = rw (keep-false t x l e) ih
 
 -- the test of a child is true of the children
 pub child-true : (par dep : ℕ → ℕ) (u v : ℕ) → (child? par dep u v ≡ true) ↔ Child par dep u v

@@ -1,6 +1,5 @@
 pub mod Numbering
 pub mod RuleOne
 pub mod Log
-pub mod Runs
 pub mod Lights
 pub mod Ruled

@@ -6,10 +6,10 @@ use mathlib.Core.Logic.{_≢_}
 use mathlib.Core.List.{List}
 use lib.ListN.{length, set, length-set}
 use Rattle.sums.specs.Sum.{at}
-use Rattle.graph.specs.Work.{Only}
+use Rattle.graph.specs.Work.{Only, Put}
 use Rattle.graph.proofs.Frames.{only-refl, only-trans, only-set, at-set-same, at-set-other}
 use Rattle.passes.specs.Passes.{region, NumberAsks, NumberAnswers}
-use Rattle.passes.specs.Inner.{Put, PlaceAsks, Placed, OneAsks, Numbers, heavy, light}
+use Rattle.passes.specs.Inner.{PlaceAsks, Placed, OneAsks, Numbers, heavy, light}
 use Rattle.passes.proofs.Ranking.{WeighedTree, Ranking, ranking-start, ranking-heavy, ranking-light, ranking-done, left-enough, left-within}
 
 -- the four stores of `place`

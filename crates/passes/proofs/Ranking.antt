@@ -4,11 +4,10 @@ use native.Mathlib.Omega.{arith}
 use mathlib.Core.Path.{_≡_, refl, sym, ap, _∙_, subst}
 use mathlib.Core.Logic.{_≢_}
 use mathlib.Core.List.{List}
-use Rattle.sums.proofs.Sums.{equal-or-not}
+use Rattle.sums.proofs.Sums.{equal-or-not, up-to}
 use Rattle.numbering.specs.Numbering.{total}
-use Rattle.sums.proofs.Sums.{up-to}
+use Rattle.graph.specs.Work.{Put}
 use Rattle.passes.specs.Passes.{Weighed, Backwards, lights, Ranked}
-use Rattle.passes.specs.Inner.{Put}
 use Rattle.passes.proofs.Lights.{backwards-same, backwards-more, in-lights, lights-other, lights-heavy, lights-more, lights-none, total-more, child-room}
 
 -- each position but the first stands behind its parent, and the positions are weighed

@@ -1,42 +1,28 @@
--- Laws of runs: the children of a position among the positions from a up to n.
+-- Laws of runs: the children of a position among the positions from a up to n; and what is kept of a list, by its places.
 use Prim.Native.Nat.{ℕ, zero, suc, _+_, _-_, _≤_, _<_}
 use native.Mathlib.Omega.{arith}
-use mathlib.Core.Path.{_≡_, refl, sym, ap, _∙_, subst}
-use mathlib.Core.Logic.{_≢_, _⊎_, inl, inr, ⊎-elim}
+use mathlib.Core.Path.{_≡_, refl, sym, ap, ap₂, _∙_}
+use mathlib.Core.Logic.{_≢_, _⊎_, inl, inr, ⊎-elim, _↔_}
 use mathlib.Core.Bool.{Bool, true, false}
-use mathlib.Core.List.{List, [], _∷_, _++_, append-nil}
+use mathlib.Core.List.{List, [], _∷_, _++_, map, append-nil}
 use lib.Dec.{eqb}
+use lib.ListN.{length}
 use borrow.Author.Tests.{eq-eqb, ne-eqb, eqb-true}
+use Rattle.sums.specs.Sum.{at}
+use Rattle.sums.proofs.Sums.{equal-or-not}
 use Rattle.paths.specs.Walk.{In}
+use Rattle.paths.proofs.Rising.{Rises, above-of}
 use Rattle.numbering.specs.RuleOne.{keep}
+use Rattle.numbering.proofs.Kept.{keep-true, keep-false, keep-in}
 use Rattle.passes.specs.Passes.{from, runFrom, run}
-
-keep-passes : (t : ℕ → Bool) (x : ℕ) (l : List ℕ) → t x ≡ true → keep t (x ∷ l) ≡ x ∷ keep t l
-keep-passes t x l e = rw (e, keep)
-
-keep-fails : (t : ℕ → Bool) (x : ℕ) (l : List ℕ) → t x ≡ false → keep t (x ∷ l) ≡ keep t l
-keep-fails t x l e = rw (e, keep)
 
 keep-append : (t : ℕ → Bool) (l m : List ℕ) → keep t (l ++ m) ≡ keep t l ++ keep t m
 keep-append t [] m = refl
 keep-append t (x ∷ l) m = one (t x) refl (keep-append t l m)
   where
     one : (b : Bool) → t x ≡ b → keep t (l ++ m) ≡ keep t l ++ keep t m → keep t (x ∷ (l ++ m)) ≡ keep t (x ∷ l) ++ keep t m
-    one true e rest = keep-passes t x (l ++ m) e ∙ ap (λ (k : List ℕ). x ∷ k) rest ∙ sym (ap (λ (k : List ℕ). k ++ keep t m) (keep-passes t x l e))
-    one false e rest = keep-fails t x (l ++ m) e ∙ rest ∙ sym (ap (λ (k : List ℕ). k ++ keep t m) (keep-fails t x l e))
-
--- what is kept passes the test
-in-keep : (t : ℕ → Bool) (l : List ℕ) {x : ℕ} → In x (keep t l) → In x l × (t x ≡ true)
-in-keep t [] h = absurd h
-in-keep t (y ∷ l) {x} h = one (t y) refl (λ i. in-keep t l i)
-  where
-    one : (b : Bool) → t y ≡ b → (In x (keep t l) → In x l × (t x ≡ true)) → ((x ≡ y) ⊎ In x l) × (t x ≡ true)
-    one true e rest =
-        ⊎-elim (λ (q : x ≡ y). (inl q, ap t q ∙ e)) (λ (i : In x (keep t l)). (inr (rest i .0), rest i .1))
-        (subst (λ (k : List ℕ). In x k) (keep-passes t y l e) h)
-    one false e rest =
-        let i = rest (subst (λ (k : List ℕ). In x k) (keep-fails t y l e) h) in
-        (inr (i .0), i .1)
+    one true e rest = keep-true t x (l ++ m) e ∙ ap (λ (k : List ℕ). x ∷ k) rest ∙ sym (ap (λ (k : List ℕ). k ++ keep t m) (keep-true t x l e))
+    one false e rest = keep-false t x (l ++ m) e ∙ rest ∙ sym (ap (λ (k : List ℕ). k ++ keep t m) (keep-false t x l e))
 
 from-append : (a k m : ℕ) → from a (k + m) ≡ from a k ++ from (a + k) m
 from-append a zero m =
@@ -48,10 +34,33 @@ from-append a (suc k) m =
     let f : suc a + k ≡ a + suc k = omega arith in
     ap (from a) e ∙ ap (λ (l : List ℕ). a ∷ l) (from-append (suc a) k m ∙ ap (λ (b : ℕ). from (suc a) k ++ from b m) f)
 
-in-from : (a k : ℕ) {x : ℕ} → In x (from a k) → (a ≤ x) × (x < a + k)
-in-from a zero h = absurd h
-in-from a (suc k) {x} h =
-    ⊎-elim (λ (e : x ≡ a). omega arith) (λ (i : In x (from (suc a) k)). let b = in-from (suc a) k i in omega arith) h
+-- the numbers of `from`
+pub from-in : (a k x : ℕ) → In x (from a k) ↔ ((a ≤ x) × (x < a + k))
+from-in a zero x = (λ i. absurd i, λ h. absurd (let p = h .0 in let q = h .1 in omega arith))
+from-in a (suc k) x = step (from-in (suc a) k x)
+  where
+    step : In x (from (suc a) k) ↔ ((suc a ≤ x) × (x < suc a + k)) → ((x ≡ a) ⊎ In x (from (suc a) k)) ↔ ((a ≤ x) × (x < a + suc k))
+    step ih = (
+      ⊎-elim (λ e. omega arith) (λ i. (let r = ih .0 i in omega arith)),
+      λ h. equal-or-not x a (λ e. inl e) (λ d. inr (ih .1 (let p = h .0 in let q = h .1 in omega arith))),
+    )
+
+pub from-rises : (a k : ℕ) → Rises (from a k)
+from-rises a zero = tt
+from-rises a (suc k) = (above-of a (from (suc a) k) (λ y i. (let r = from-in (suc a) k y .0 i in omega arith)), from-rises (suc a) k)
+
+-- a list's kept entries, read off their places
+pub keep-places : (t : ℕ → Bool) (l m : List ℕ) (a : ℕ) → ((k : ℕ) → k < length l → at m (a + k) ≡ at l k) → keep t l ≡ map (at m) (keep (λ k. t (at m k)) (from a (length l)))
+keep-places t [] m a h = refl
+keep-places t (x ∷ l) m a h = cases (t x) refl (keep-places t l m (suc a) (λ k q. ap (at m) (let e : suc a + k ≡ a + suc k = omega arith in e) ∙ h (suc k) (omega arith)))
+  where
+    first : at m a ≡ x
+    first = ap (at m) (let e : a ≡ a + 0 = omega arith in e) ∙ h 0 (omega arith)
+
+    cases : (b : Bool) → t x ≡ b → keep t l ≡ map (at m) (keep (λ k. t (at m k)) (from (suc a) (length l)))
+        → keep t (x ∷ l) ≡ map (at m) (keep (λ k. t (at m k)) (from a (suc (length l))))
+    cases true e ih = keep-true t x l e ∙ ap₂ _∷_ (sym first) ih ∙ sym (ap (map (at m)) (keep-true (λ k. t (at m k)) a (from (suc a) (length l)) (ap t first ∙ e)))
+    cases false e ih = keep-false t x l e ∙ ih ∙ sym (ap (map (at m)) (keep-false (λ k. t (at m k)) a (from (suc a) (length l)) (ap t first ∙ e)))
 
 -- a list in which nothing stands
 nothing-in : (l : List ℕ) → ((x : ℕ) → In x l → ⊥) → l ≡ []
@@ -62,8 +71,8 @@ module _ (p : ℕ → ℕ) (n : ℕ) where
   -- what stands in a run is a child, between a and n
   pub in-run : (a i : ℕ) {x : ℕ} → a ≤ n → In x (runFrom p n a i) → (a ≤ x) × (x < n) × (p x ≡ i)
   in-run a i {x} h r =
-      let k = in-keep (λ j. eqb (p j) i) (from a (n - a)) r in
-      let b = in-from a (n - a) (k .0) in
+      let k = keep-in (λ j. eqb (p j) i) (from a (n - a)) x .0 r in
+      let b = from-in a (n - a) x .0 (k .0) in
       (b .0, omega arith, eqb-true (p x) i (k .1))
 
   from-next : (a : ℕ) → a < n → from a (n - a) ≡ a ∷ from (a + 1) (n - (a + 1))
@@ -75,12 +84,12 @@ module _ (p : ℕ → ℕ) (n : ℕ) where
   -- a child is the first of its run
   pub run-child : (a i : ℕ) → a < n → p a ≡ i → runFrom p n a i ≡ a ∷ runFrom p n (a + 1) i
   run-child a i h e =
-      ap (keep (λ k. eqb (p k) i)) (from-next a h) ∙ keep-passes (λ k. eqb (p k) i) a (from (a + 1) (n - (a + 1))) (eq-eqb (p a) i e)
+      ap (keep (λ k. eqb (p k) i)) (from-next a h) ∙ keep-true (λ k. eqb (p k) i) a (from (a + 1) (n - (a + 1))) (eq-eqb (p a) i e)
 
   -- and any other position is passed over
   pub run-other : (a i : ℕ) → a < n → p a ≢ i → runFrom p n a i ≡ runFrom p n (a + 1) i
   run-other a i h d =
-      ap (keep (λ k. eqb (p k) i)) (from-next a h) ∙ keep-fails (λ k. eqb (p k) i) a (from (a + 1) (n - (a + 1))) (ne-eqb (p a) i d)
+      ap (keep (λ k. eqb (p k) i)) (from-next a h) ∙ keep-false (λ k. eqb (p k) i) a (from (a + 1) (n - (a + 1))) (ne-eqb (p a) i d)
 
   -- behind the last position nothing is left
   pub run-end : (i : ℕ) → runFrom p n n i ≡ []

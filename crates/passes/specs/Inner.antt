@@ -4,13 +4,8 @@ use mathlib.Core.Path.{_≡_}
 use mathlib.Core.Logic.{_≢_}
 use mathlib.Core.List.{List}
 use lib.ListN.{length, set}
-use Rattle.graph.specs.Work.{Only}
+use Rattle.graph.specs.Work.{Only, Put}
 use Rattle.passes.specs.Passes.{region}
-
--- among the numbers below n, f′ is f with x at j
-pub record Put (n j x : ℕ) (f f′ : ℕ → ℕ) : Type 0 where
-  pub here : f′ j ≡ x
-  pub there : (k : ℕ) → k < n → k ≢ j → f′ k ≡ f k
 
 -- `start_weights`: there is room for eight regions
 pub record StartAsks (n : ℕ) (w : List ℕ) : Type 0 where

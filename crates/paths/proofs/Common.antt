@@ -1,15 +1,15 @@
--- Three vertices have exactly one vertex common to the three paths between them.
+-- Three vertices have a vertex common to the three paths between them: the deepest of their deepest common ancestors.
 use Prim.Native.Nat.{ℕ, _<_, _≤_}
-use mathlib.Core.Path.{_≡_, refl, sym}
+use mathlib.Core.Path.{_≡_, refl}
 use mathlib.Core.Logic.{_⊎_, inl, inr, ⊎-elim}
 use native.Mathlib.Omega.{arith}
 use Rattle.paths.specs.Rooted.{Rooted, Anc}
 use Rattle.paths.specs.Route.{On, Common, top}
 use Rattle.paths.proofs.Canon.{ends-ind, StepUp, StepDown}
 use Rattle.paths.proofs.Above.{anc?, anc-dep, anc-same, anc-antisym, par-no-anc, on-anc}
-use Rattle.paths.proofs.Steps.{on-last, on-below, ptail-none, no-anc-pos, leave, enter}
-use Rattle.paths.proofs.Turn.{on-turn, length-turn}
-use Rattle.paths.proofs.Cut.{cut-length, cover}
+use Rattle.paths.proofs.Steps.{on-last, no-anc-pos, leave, enter}
+use Rattle.paths.proofs.Turn.{on-turn}
+use Rattle.paths.proofs.Cut.{cover}
 use Rattle.paths.proofs.Top.{top-deepest, on-top}
 
 module _ {n root : ℕ} {par dep : ℕ → ℕ} (R : Rooted n root par dep) where
@@ -70,23 +70,6 @@ module _ {n root : ℕ} {par dep : ℕ → ℕ} (R : Rooted n root par dep) wher
           let hp = R .par-below v hv (omega arith) in
           let s = common-up hr hv hu (λ a. omega arith) (ih .0, common-swap (ih .0) hu hp (ih .1)) in
           (s .0, common-swap (s .0) hv hu (s .1))
-
-  -- only one vertex is common to the three paths
-  pub common-unique : (m k : ℕ) {r u v : ℕ} → r < n → u < n → v < n → Common par dep r u v m → Common par dep r u v k → m ≡ k
-  common-unique m k {r} {u} {v} hr hu hv c d =
-      let hm = on-below R m hu hv (c .across) in
-      let hk = on-below R k hu hv (d .across) in
-      let c0 = cut-length R m hu hv (c .across) in
-      let c1 = cut-length R m hr hu (c .to-first) in
-      let c2 = cut-length R m hr hv (c .to-second) in
-      let d0 = cut-length R k hu hv (d .across) in
-      let d1 = cut-length R k hr hu (d .to-first) in
-      let d2 = cut-length R k hr hv (d .to-second) in
-      let cu = length-turn R hm hu in
-      let du = length-turn R hk hu in
-      ⊎-elim (λ h. let z = cut-length R k hu hm h in sym (ptail-none R hk hm (omega arith)))
-      (λ h. let z = cut-length R k hm hv h in ptail-none R hm hk (omega arith))
-      (cover R k hu hv hm (d .across))
 
   -- it is one of the three deepest common ancestors
   pub common-top :

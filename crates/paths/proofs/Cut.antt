@@ -1,17 +1,16 @@
 -- A path is cut at the vertices on it, and covered by any detour.
 use Prim.Native.Nat.{ℕ, _+_, _<_}
-use mathlib.Core.Path.{_≡_, refl, _∙_, ap}
+use mathlib.Core.Path.{_≡_, _∙_, ap}
 use mathlib.Core.Logic.{_⊎_, inl, inr, ⊎-elim}
 use mathlib.Core.List.{[], _∷_, _++_, append-nil, append-assoc}
 use native.Mathlib.Omega.{arith}
 use lib.ListN.{length, length-append}
 use Rattle.paths.specs.Walk.{In}
-use Rattle.paths.specs.Rooted.{Rooted, Anc}
+use Rattle.paths.specs.Rooted.{Rooted}
 use Rattle.paths.specs.Route.{ptail, On}
 use Rattle.paths.proofs.Listed.{in-left, in-right, in-snoc}
 use Rattle.paths.proofs.Canon.{ptail-same, ptail-up, ptail-down, ends-ind, StepUp, StepDown}
 use Rattle.paths.proofs.Above.{anc?, anc-refl, par-no-anc}
-use Rattle.paths.proofs.Turn.{on-turn}
 use Rattle.paths.proofs.Steps.{on-same, on-last, on-below, off-up, off-down, leave, arrive, enter}
 
 module _ {n root : ℕ} {par dep : ℕ → ℕ} (R : Rooted n root par dep) where
@@ -56,10 +55,6 @@ module _ {n root : ℕ} {par dep : ℕ → ℕ} (R : Rooted n root par dep) wher
       (w : ℕ) {u v : ℕ} → u < n → v < n → On par dep w u v → length (ptail par dep u v) ≡ length (ptail par dep u w) + length (ptail par dep w v)
   cut-length w {u} {v} hu hv h = ap length (cut w hu hv h) ∙ length-append (ptail par dep u w) (ptail par dep w v)
 
-  -- where two paths join to a path, they meet on it
-  pub join : {u w : ℕ} (v : ℕ) → u < n → w < n → ptail par dep u v ≡ ptail par dep u w ++ ptail par dep w v → On par dep w u v
-  join {u} {w} v hu hw e = rw e (in-left w (u ∷ ptail par dep u w) (ptail par dep w v) (on-last R hu hw))
-
   -- what is on the part of a path up to a vertex on it is on the path
   pub on-first-part : (x y : ℕ) {u v : ℕ} → u < n → v < n → On par dep x u v → On par dep y u x → On par dep y u v
   on-first-part x y {u} {v} hu hv h i = rw (cut x hu hv h) (in-left y (u ∷ ptail par dep u x) (ptail par dep x v) i)
@@ -76,13 +71,6 @@ module _ {n root : ℕ} {par dep : ℕ → ℕ} (R : Rooted n root par dep) wher
   -- the path to a child is one step
   pub step-down : {x : ℕ} → x < n → 0 < dep x → ptail par dep (par x) x ≡ x ∷ []
   step-down {x} hx p = rw (enter R hx hx p (anc-refl par dep x), ptail-same par dep x)
-
-  -- from below a vertex to its parent, the path goes through the vertex
-  pub exit : {u x : ℕ} → u < n → x < n → 0 < dep x → Anc par dep x u → ptail par dep u (par x) ≡ ptail par dep u x ++ (par x ∷ [])
-  exit {u} {x} hu hx p a =
-      let hp = R .par-below x hx p in
-      let h : On par dep x (par x) u = inr (rw (enter R hx hu p a) (inl refl)) in
-      rw (cut x hu hp (on-turn R x hp hu h), step-up hx p)
 
   -- each vertex on a path is on one of the two parts of any detour
   pub cover : (x : ℕ) {u v w : ℕ} → u < n → v < n → w < n → On par dep x u v → On par dep x u w ⊎ On par dep x w v

@@ -11,3 +11,5 @@ pub mod Top
 pub mod Links
 pub mod LinkTotal
 pub mod Common
+pub mod Hung
+pub mod Rising

@@ -1,8 +1,11 @@
--- Membership, repeats, bounds and walks, along lists that are joined.
-use Prim.Native.Nat.{ℕ, _<_}
-use mathlib.Core.Path.{_≡_, refl, sym, subst}
+-- Membership, repeats, bounds and walks: by the places of a list, and along lists that are joined.
+use Prim.Native.Nat.{ℕ, zero, suc, _<_}
+use native.Mathlib.Omega.{arith}
+use mathlib.Core.Path.{_≡_, refl, sym, ap, subst}
 use mathlib.Core.Logic.{_⊎_, inl, inr, ⊎-elim}
 use mathlib.Core.List.{List, [], _∷_, _++_}
+use lib.ListN.{length}
+use Rattle.sums.specs.Sum.{at}
 use Rattle.paths.specs.Walk.{In, Out, NoDup, Below, From}
 
 -- what stands in the first of two lists stands in both joined
@@ -71,3 +74,22 @@ from-append E u w v (x ∷ a) b f h = (f .0, from-append E x w v a b (f .1) h)
 pub from-last : (E : ℕ → ℕ → Type 0) (u v : ℕ) (a : List ℕ) → From E u v a → In v (u ∷ a)
 from-last E u v [] e = inl (sym e)
 from-last E u v (x ∷ a) f = inr (from-last E x v a (f .1))
+
+-- an entry of a list stands in it
+pub at-in : (l : List ℕ) (i : ℕ) → i < length l → In (at l i) l
+at-in [] i h = absurd (omega arith)
+at-in (x ∷ l) zero h = inl refl
+at-in (x ∷ l) (suc i) h = inr (at-in l i (omega arith))
+
+-- what stands in a list is an entry
+pub in-at : (x : ℕ) (l : List ℕ) → In x l → (i : ℕ) × (i < length l) × (at l i ≡ x)
+in-at x (y ∷ l) (inl e) = (0, omega arith, sym e)
+in-at x (y ∷ l) (inr h) = (let r = in-at x l h in (suc (r .0), (let k = r .1 in omega arith), r .2))
+
+-- a list without repeats has each entry at one place
+pub nodup-at : (l : List ℕ) → NoDup l → (i j : ℕ) → i < length l → j < length l → at l i ≡ at l j → i ≡ j
+nodup-at [] d i j hi hj e = absurd (omega arith)
+nodup-at (x ∷ l) d zero zero hi hj e = refl
+nodup-at (x ∷ l) d zero (suc j) hi hj e = absurd (out-not x l (d .0) (subst (λ (y : ℕ). In y l) (sym e) (at-in l j (omega arith))))
+nodup-at (x ∷ l) d (suc i) zero hi hj e = absurd (out-not x l (d .0) (subst (λ (y : ℕ). In y l) e (at-in l i (omega arith))))
+nodup-at (x ∷ l) d (suc i) (suc j) hi hj e = ap suc (nodup-at l (d .1) i j (omega arith) (omega arith) e)

@@ -1,7 +1,7 @@
 -- The deepest common ancestor of two vertices: where their path turns from going up to going down.
 use Prim.Native.Nat.{ℕ, _+_, _*_, _<_}
 use mathlib.Core.Path.{_≡_, sym, _∙_, ap}
-use mathlib.Core.Logic.{_⊎_, inl, inr, ⊎-elim, _≢_, _↔_}
+use mathlib.Core.Logic.{inl, inr, ⊎-elim, _≢_}
 use mathlib.Core.List.{[], _∷_, _++_}
 use native.Mathlib.Omega.{arith}
 use lib.ListN.{length, length-append}
@@ -11,9 +11,7 @@ use Rattle.paths.proofs.Listed.{in-left, in-snoc}
 use Rattle.paths.proofs.Canon.{ptail-same, ptail-up, ptail-down, top-same, top-up, top-down, ends-ind, StepUp, StepDown}
 use Rattle.paths.proofs.Above.{anc-refl, anc-same, anc-antisym, anc-up, anc-par, anc-below}
 use Rattle.paths.proofs.Steps.{on-same}
-use Rattle.paths.proofs.Turn.{on-turn}
-use Rattle.paths.proofs.Cut.{cut, on-first-part, on-last-part}
-use Rattle.paths.proofs.Ancestors.{anc-on, on-between}
+use Rattle.paths.proofs.Cut.{cut}
 
 module _ {n root : ℕ} {par dep : ℕ → ℕ} (R : Rooted n root par dep) where
   -- it is an ancestor of both
@@ -39,10 +37,6 @@ module _ {n root : ℕ} {par dep : ℕ → ℕ} (R : Rooted n root par dep) wher
   -- it is an ancestor of the second
   pub top-right : {u v : ℕ} → u < n → v < n → Anc par dep (top par dep u v) v
   top-right hu hv = top-anc hu hv .1
-
-  -- it is a vertex
-  pub top-below : {u v : ℕ} → u < n → v < n → top par dep u v < n
-  top-below {u} {v} hu hv = anc-below R (top par dep u v) hu (top-left hu hv)
 
   -- each common ancestor is an ancestor of it
   pub top-deepest : (x : ℕ) {u v : ℕ} → u < n → v < n → Anc par dep x u → Anc par dep x v → Anc par dep x (top par dep u v)
@@ -144,24 +138,8 @@ module _ {n root : ℕ} {par dep : ℕ → ℕ} (R : Rooted n root par dep) wher
           ⊎-elim (λ i. rw (top-down R u v hv q) (ih (inr i))) last
           (in-snoc x v (ptail par dep u (par v)) (rw (ptail-down R u v hv q) at h))
 
-  -- a vertex is on a path if it is above one end and the deepest common ancestor is above it
-  pub top-between : (x : ℕ) {u v : ℕ} → u < n → v < n → Anc par dep x u ⊎ Anc par dep x v → Anc par dep (top par dep u v) x → On par dep x u v
-  top-between x {u} {v} hu hv (inl a) t =
-      on-first-part R (top par dep u v) x hu hv (top-on hu hv) (anc-on R x (top par dep u v) hu a t)
-  top-between x {u} {v} hu hv (inr a) t =
-      on-last-part R (top par dep u v) x hu hv (top-on hu hv)
-      (on-turn R x hv (top-below hu hv) (anc-on R x (top par dep u v) hv a t))
-
   -- the deepest common ancestor of a vertex and an ancestor is the ancestor
   pub top-of-anc : (t : ℕ) {v : ℕ} → v < n → Anc par dep t v → top par dep v t ≡ t
   top-of-anc t {v} hv a =
       let ht = anc-below R t hv a in
       sym (top-unique t hv ht a (anc-refl par dep t) (λ x b c. c))
-
-  -- the path to an ancestor meets exactly what is between
-  pub between : (x t : ℕ) {v : ℕ} → v < n → Anc par dep t v → On par dep x v t ↔ (Anc par dep t x × Anc par dep x v)
-  between x t {v} hv a =
-      let ht = anc-below R t hv a in (
-        λ h. (rw (top-of-anc t hv a) at (on-top x hv ht h), on-between R x t hv a h),
-        λ b. anc-on R x t hv (b .1) (b .0),
-      )

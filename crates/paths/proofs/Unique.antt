@@ -62,15 +62,6 @@ module _ {n root : ℕ} {par dep : ℕ → ℕ} (R : Rooted n root par dep) wher
     | no g ↦ absurd (f (rw (leave R hw hv g) (inr (inl (sym (c .1))))))
   ]
 
-  -- a rooted tree is the tree of its own links
-  pub rooted-span : Spans n (λ u v. Child par dep u v ⊎ Child par dep v u) root par dep
-  rooted-span = record {
-    rooted = R;
-    down = λ v hv p. inl (p, refl);
-    up = λ v hv p. inr (p, refl);
-    only = λ u v hu hv e. e;
-  }
-
 module _ {n : ℕ} {E : ℕ → ℕ → Type 0} {root : ℕ} {par dep : ℕ → ℕ} (S : Spans n E root par dep) where
   -- the path is a simple path of the tree
   pub path-simple : {u v : ℕ} → u < n → v < n → Simple n E u v (ptail par dep u v)

@@ -3,7 +3,6 @@ use Prim.Native.Nat.{ℕ, _+_, _≤_, _<_}
 use mathlib.Core.Path.{_≡_, sym}
 use mathlib.Core.Logic.{_≢_}
 use mathlib.Core.List.{List, [], _∷_, _++_, map, reverse, append-nil}
-use lib.ListN.{drop}
 use Rattle.sums.specs.Sum.{at}
 use Rattle.paths.proofs.Cut.{cut}
 use Rattle.paths.proofs.Steps.{on-below}
@@ -11,11 +10,11 @@ use Rattle.tables.specs.Tables.{Six}
 use Rattle.climb.specs.Sound.{parentIn, depthIn, headIn, idIn}
 use Rattle.pathlaws.specs.Given.{Given, pathIn, OnIn}
 use Rattle.ranges.specs.Ranges.{found, chainRange, pathRanges}
-use Rattle.ranges.specs.Readings.{readRange, reading, edgeNumbers, bothNumbers}
+use Rattle.ranges.specs.Readings.{readRange, reading}
 use Rattle.ranges.specs.declared.kinds.Direction.the-variants.{Forward}
 use Rattle.ranges.specs.declared.kinds.PathRange.{PathRange}
 use Rattle.ranges.specs.declared.kinds.Kind.{Kind}
-use Rattle.ranges.specs.declared.kinds.Kind.the-variants.{Vertices, Edges, Both}
+use Rattle.ranges.specs.declared.kinds.Kind.the-variants.{Vertices}
 use Rattle.readings.specs.Numbers.{numbersIn, rest}
 use Rattle.readings.proofs.Runs.{reading-append}
 use Rattle.readings.proofs.Numbers.{numbers-join, numbers-turn, walks}
@@ -77,54 +76,3 @@ module _ {n root : ℕ} {A : ℕ → List ℕ} {t : Six} {kids : ℕ → List �
   pub vertices-read :
       {u v : ℕ} → u < n → v < n → (l : List PathRange) → pathRanges Vertices n t u v ≡ found l → reading l ≡ map (at (t .id)) (u ∷ pathIn t u v)
   vertices-read hu hv = ranges-read Vertices hu hv
-
-  -- edge ranges read the number of each edge, that of its child
-  pub edges-read :
-      {u v : ℕ} → u < n → v < n → (l : List PathRange) → pathRanges Edges n t u v ≡ found l
-      → reading l ≡ edgeNumbers (at (t .depth)) (at (t .id)) u (pathIn t u v)
-  edges-read hu hv = ranges-read Edges hu hv
-
-  -- vertex and edge ranges read the doubled numbers of both in turn
-  pub both-read :
-      {u v : ℕ} → u < n → v < n → (l : List PathRange) → pathRanges Both n t u v ≡ found l
-      → reading l ≡ bothNumbers (at (t .depth)) (at (t .id)) u (pathIn t u v)
-  both-read hu hv = ranges-read Both hu hv
-
-  -- cut at w, the vertex reading is that to w, followed by that from w without its first number
-  pub vertices-cut :
-      (w : ℕ) {u v : ℕ}
-      → u < n
-      → v < n
-      → OnIn t w u v
-      → (l l₁ l₂ : List PathRange)
-      → pathRanges Vertices n t u v ≡ found l
-      → pathRanges Vertices n t u w ≡ found l₁
-      → pathRanges Vertices n t w v ≡ found l₂
-      → reading l ≡ reading l₁ ++ drop 1 (reading l₂)
-  vertices-cut = ranges-cut Vertices
-
-  -- the edge reading is that to w, followed by that from w
-  pub edges-cut :
-      (w : ℕ) {u v : ℕ}
-      → u < n
-      → v < n
-      → OnIn t w u v
-      → (l l₁ l₂ : List PathRange)
-      → pathRanges Edges n t u v ≡ found l
-      → pathRanges Edges n t u w ≡ found l₁
-      → pathRanges Edges n t w v ≡ found l₂
-      → reading l ≡ reading l₁ ++ reading l₂
-  edges-cut = ranges-cut Edges
-
-  -- the reading of both is that to w, followed by that from w without its first number
-  pub both-cut :
-      (w : ℕ) {u v : ℕ}
-      → u < n
-      → v < n
-      → OnIn t w u v
-      → (l l₁ l₂ : List PathRange)
-      → pathRanges Both n t u v ≡ found l
-      → pathRanges Both n t u w ≡ found l₁
-      → pathRanges Both n t w v ≡ found l₂
-      → reading l ≡ reading l₁ ++ drop 1 (reading l₂)
-  both-cut = ranges-cut Both

@@ -1,4 +1,4 @@
 pub mod Sums
 pub mod Counts
 pub mod Pigeon
-pub mod Search
+pub mod Images

@@ -2,7 +2,7 @@
 use Prim.Native.Nat.{ℕ, zero, suc, _+_, _*_, _-_, _≤_, _<_}
 use native.Mathlib.Omega.{arith}
 use native.Mathlib.Decide.{ℕ-discrete}
-use native.Mathlib.Nat.{zero-mul, suc-mul, mul-zero, mul-add}
+use native.Mathlib.Nat.{zero-mul, suc-mul}
 use mathlib.Core.Path.{_≡_, refl, sym, ap, ap₂, subst, _∙_}
 use mathlib.Core.Logic.{_≢_, by-cases}
 use mathlib.Core.Bool.{Bool, true, false}
@@ -51,11 +51,6 @@ sum-mono (suc n) f g h = omega (arith, sum-mono n f g (λ i b. h i (omega arith)
 pub sum-add : (n : ℕ) (f g : ℕ → ℕ) → sum n (λ i. f i + g i) ≡ sum n f + sum n g
 sum-add zero f g = refl
 sum-add (suc n) f g = omega (arith, sum-add n f g)
-
--- a factor goes before the sum
-pub sum-scale : (n k : ℕ) (f : ℕ → ℕ) → sum n (λ i. k * f i) ≡ k * sum n f
-sum-scale zero k f = sym (mul-zero k)
-sum-scale (suc n) k f = omega (arith, sum-scale n k f, mul-add k (sum n f) (f n))
 
 -- n times c
 pub sum-const : (n c : ℕ) → sum n (λ i. c) ≡ n * c

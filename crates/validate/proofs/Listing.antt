@@ -9,7 +9,7 @@ use Rattle.sums.specs.Sum.{at}
 use Rattle.sums.proofs.Sums.{equal-or-not}
 use Rattle.paths.specs.Walk.{In}
 use Rattle.graph.specs.Lent.{listOf}
-use Rattle.visit.proofs.Positions.{at-in, in-at}
+use Rattle.paths.proofs.Listed.{at-in, in-at}
 
 -- an entry that is x shows that x stands in the list
 pub entry-in : (x : ℕ) (l : List ℕ) (k : ℕ) → k < length l → at l k ≡ x → In x l

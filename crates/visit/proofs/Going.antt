@@ -61,7 +61,7 @@ module _ (os ts : List ℕ) (n base root : ℕ) (w : List ℕ) (a : Asks os ts n
       subst₂ (λ (x : List ℕ) (s : ℕ). SeenIn os ts n base root x 0 0 s) (sym same) (sym r)
       (record {
         place = λ j. 0;
-        seen = seen-start (listOf os ts) (a .root-below) (new-queue n base root 0 0 w₁ v room (a .root-below) hn M .new)
+        seen = seen-start (listOf os ts) (a .root-below) (new-queue n base root 0 0 w₁ v room (a .root-below) hn M .here)
             (new-marks n base root 0 0 w₁ v room (a .root-below) hn M root ∙ M .marked)
             (λ y hy ne h. unmarked n base z y hy (sym (M .others y ne) ∙ sym (new-marks n base root 0 0 w₁ v room (a .root-below) hn M y) ∙ h));
       })

@@ -11,6 +11,7 @@ use borrow.Author.Tests.{eq-eqb, ne-eqb}
 use Rattle.sums.specs.Sum.{at}
 use Rattle.sums.proofs.Sums.{equal-or-not, up-to}
 use Rattle.sums.proofs.Pigeon.{Injective, injective-le}
+use Rattle.graph.specs.Work.{Put}
 use Rattle.visit.specs.Visit.{Visited}
 use Rattle.visit.specs.Steps.{Seen}
 
@@ -30,28 +31,27 @@ pub upd-there : (f : ℕ → ℕ) (t x j : ℕ) → j ≢ t → upd f t x j ≡ 
 unfolding upd pickℕ
 upd-there f t x j ne = ap (λ (b : Bool). pickℕ b x (f j)) (ne-eqb j t ne)
 
--- f′ is f with x at t, as far as t
-pub record Grown (t x : ℕ) (f f′ : ℕ → ℕ) : Type 0 where
-  pub old : (j : ℕ) → j < t → f′ j ≡ f j
-  pub new : f′ t ≡ x
+-- what stood below the store stands
+pub put-old : {t x : ℕ} {f f′ : ℕ → ℕ} → Put t t x f f′ → (j : ℕ) → j < t → f′ j ≡ f j
+put-old g j h = g .there j h (omega arith)
 
-pub upd-grown : (f : ℕ → ℕ) (t x : ℕ) → Grown t x f (upd f t x)
-upd-grown f t x = record { old = λ j h. upd-there f t x j (omega arith); new = upd-here f t x }
+upd-put : (f : ℕ → ℕ) (t x : ℕ) → Put t t x f (upd f t x)
+upd-put f t x = record { here = upd-here f t x; there = λ j h. upd-there f t x j }
 
 -- what holds of each f j below t, and of x, holds of each f′ j below t + 1
-grown-all : {t x : ℕ} {f f′ : ℕ → ℕ} (P : ℕ → Type 0) → Grown t x f f′ → ((j : ℕ) → j < t → P (f j)) → P x → (j : ℕ) → j < t + 1 → P (f′ j)
-grown-all {t} {x} {f} {f′} P g below here j h =
-    up-to j t h (λ lt. subst P (sym (g .old j lt)) (below j lt)) (λ e. subst P (sym (ap f′ e ∙ g .new)) here)
+put-all : {t x : ℕ} {f f′ : ℕ → ℕ} (P : ℕ → Type 0) → Put t t x f f′ → ((j : ℕ) → j < t → P (f j)) → P x → (j : ℕ) → j < t + 1 → P (f′ j)
+put-all {t} {x} {f} {f′} P g below here j h =
+    up-to j t h (λ lt. subst P (sym (put-old g j lt)) (below j lt)) (λ e. subst P (sym (ap f′ e ∙ g .here)) here)
 
 -- a function without repeats, with a value that it has not
-grown-once : {t x : ℕ} {f f′ : ℕ → ℕ} → Grown t x f f′ → Injective t f → ((j : ℕ) → j < t → f j ≢ x) → Injective (t + 1) f′
-grown-once {t} {x} {f} {f′} g inj fresh j l hj hl e =
+put-once : {t x : ℕ} {f f′ : ℕ → ℕ} → Put t t x f f′ → Injective t f → ((j : ℕ) → j < t → f j ≢ x) → Injective (t + 1) f′
+put-once {t} {x} {f} {f′} g inj fresh j l hj hl e =
     up-to j t hj
     (λ j<. up-to l t hl
-    (λ l<. inj j l j< l< (sym (g .old j j<) ∙ e ∙ g .old l l<))
-    (λ l=. absurd (fresh j j< (sym (g .old j j<) ∙ e ∙ ap f′ l= ∙ g .new))))
+    (λ l<. inj j l j< l< (sym (put-old g j j<) ∙ e ∙ put-old g l l<))
+    (λ l=. absurd (fresh j j< (sym (put-old g j j<) ∙ e ∙ ap f′ l= ∙ g .here))))
     (λ j=. up-to l t hl
-    (λ l<. absurd (fresh l l< (sym (g .old l l<) ∙ sym e ∙ ap f′ j= ∙ g .new)))
+    (λ l<. absurd (fresh l l< (sym (put-old g l l<) ∙ sym e ∙ ap f′ j= ∙ g .here)))
     (λ l=. j= ∙ sym l=))
 
 module _ {n : ℕ} {A : ℕ → List ℕ} {r : ℕ} {q p e m : ℕ → ℕ} {i k t : ℕ} (S : Seen n A r q p e m i k t) where
@@ -63,7 +63,7 @@ module _ {n : ℕ} {A : ℕ → List ℕ} {r : ℕ} {q p e m : ℕ → ℕ} {i k
   pub fresh-room : (x : ℕ) → x < n → m x ≢ 1 → t < n
   fresh-room x hx fresh =
       let le : t + 1 ≤ n =
-      injective-le (t + 1) n (upd q t x) (grown-once (upd-grown q t x) (S .once) (not-queued fresh)) (grown-all (λ y. y < n) (upd-grown q t x) (S .below) hx) in
+      injective-le (t + 1) n (upd q t x) (put-once (upd-put q t x) (S .once) (not-queued fresh)) (put-all (λ y. y < n) (upd-put q t x) (S .below) hx) in
       omega arith
 
   pub few : t ≤ n
@@ -130,57 +130,56 @@ module _ {n : ℕ} {A : ℕ → List ℕ} {r : ℕ} {q p e m : ℕ → ℕ} {i k
         closed = λ j c h hc. S .met (at (A (q j)) c) (inn j c h hc) (S .closed j c (omega arith) hc);
       }
 
-  module _ {q′ p′ m′ : ℕ → ℕ} {x : ℕ} (gq : Grown t x q q′) (gp : Grown t i p p′) (mx : m′ x ≡ 1) (mo : (y : ℕ) → y ≢ x → m′ y ≡ m y) where
+  module _ {q′ p′ m′ : ℕ → ℕ} {x : ℕ} (gq : Put t t x q q′) (gp : Put t t i p p′) (mx : m′ x ≡ 1) (mo : (y : ℕ) → y ≢ x → m′ y ≡ m y) where
     -- a mark stays
     mark-stays : (y : ℕ) → m y ≡ 1 → m′ y ≡ 1
     mark-stays y h = equal-or-not y x (λ eq. ap m′ eq ∙ mx) (λ ne. mo y ne ∙ h)
 
     -- the vertex from which an older one was met
     from-old : (j : ℕ) → 0 < j → j < t → q′ (p′ j) ≡ q (p j)
-    from-old j a b = ap q′ (gp .old j b) ∙ gq .old (p j) (let h = S .earlier j a b in omega arith)
+    from-old j a b = ap q′ (put-old gp j b) ∙ put-old gq (p j) (let h = S .earlier j a b in omega arith)
 
     from-new : i < t → q′ (p′ t) ≡ q i
-    from-new hi = ap q′ (gp .new) ∙ gq .old i hi
+    from-new hi = ap q′ (gp .here) ∙ put-old gq i hi
 
     -- an entry that is new
     pub seen-new : i < t → k < length (A (q i)) → at (A (q i)) k ≡ x → x < n → m x ≢ 1 → Seen n A r q′ p′ (upd e t k) m′ i (k + 1) (t + 1)
     seen-new hi hk ex hx fresh =
-        let ge : Grown t k e (upd e t k) = upd-grown e t k in
-        let e-old : (j : ℕ) → j < t → upd e t k j ≡ e j = λ j h. ge .old j h in
+        let ge : Put t t k e (upd e t k) = upd-put e t k in
         record {
           some = omega arith;
           within = omega arith;
-          start = gq .old 0 (omega arith) ∙ S .start;
-          below = grown-all (λ y. y < n) gq (S .below) hx;
-          once = grown-once gq (S .once) (not-queued fresh);
-          marked = grown-all (λ y. m′ y ≡ 1) gq (λ j h. mark-stays (q j) (S .marked j h)) mx;
-          met = λ y hy my. equal-or-not y x (λ eq. (t, (omega arith), gq .new ∙ sym eq))
-              (λ ne. (let f = S .met y hy (sym (mo y ne) ∙ my) in (f .0, (let lt = f .1 in omega arith), gq .old (f .0) (f .1) ∙ f .2)));
-          earlier = λ j a b. up-to j t b (λ lt. (let o = gp .old j lt in let h = S .earlier j a lt in omega arith))
-              (λ eq. (let o : p′ j ≡ i = ap p′ eq ∙ gp .new in omega arith));
-          so-far = λ j a b. up-to j t b (λ lt. (let o = gp .old j lt in let h = S .so-far j a lt in omega arith))
-              (λ eq. (let o : p′ j ≡ i = ap p′ eq ∙ gp .new in omega arith));
+          start = put-old gq 0 (omega arith) ∙ S .start;
+          below = put-all (λ y. y < n) gq (S .below) hx;
+          once = put-once gq (S .once) (not-queued fresh);
+          marked = put-all (λ y. m′ y ≡ 1) gq (λ j h. mark-stays (q j) (S .marked j h)) mx;
+          met = λ y hy my. equal-or-not y x (λ eq. (t, (omega arith), gq .here ∙ sym eq))
+              (λ ne. (let f = S .met y hy (sym (mo y ne) ∙ my) in (f .0, (let lt = f .1 in omega arith), put-old gq (f .0) (f .1) ∙ f .2)));
+          earlier = λ j a b. up-to j t b (λ lt. (let o = put-old gp j lt in let h = S .earlier j a lt in omega arith))
+              (λ eq. (let o : p′ j ≡ i = ap p′ eq ∙ gp .here in omega arith));
+          so-far = λ j a b. up-to j t b (λ lt. (let o = put-old gp j lt in let h = S .so-far j a lt in omega arith))
+              (λ eq. (let o : p′ j ≡ i = ap p′ eq ∙ gp .here in omega arith));
           place = λ j a b. up-to j t b
-              (λ lt. (let o = ge .old j lt in let f = ap (λ (y : ℕ). length (A y)) (from-old j a lt) in let h = S .place j a lt in omega arith))
+              (λ lt. (let o = put-old ge j lt in let f = ap (λ (y : ℕ). length (A y)) (from-old j a lt) in let h = S .place j a lt in omega arith))
               (λ eq. subst (λ (y : ℕ). upd e t k y < length (A (q′ (p′ y)))) (sym eq)
-              (let o = ge .new in let f = ap (λ (y : ℕ). length (A y)) (from-new hi) in omega arith));
-          looked = λ j a b eq. up-to j t b (λ lt. (let o = ge .old j lt in let h = S .looked j a lt (sym (gp .old j lt) ∙ eq) in omega arith))
-              (λ jt. (let o : upd e t k j ≡ k = ap (upd e t k) jt ∙ ge .new in omega arith));
+              (let o = ge .here in let f = ap (λ (y : ℕ). length (A y)) (from-new hi) in omega arith));
+          looked = λ j a b eq. up-to j t b (λ lt. (let o = put-old ge j lt in let h = S .looked j a lt (sym (put-old gp j lt) ∙ eq) in omega arith))
+              (λ jt. (let o : upd e t k j ≡ k = ap (upd e t k) jt ∙ ge .here in omega arith));
           entry = λ j a b. up-to j t b
-              (λ lt. ap (λ (y : ℕ). at (A y) (upd e t k j)) (from-old j a lt) ∙ ap (at (A (q (p j)))) (ge .old j lt) ∙ S .entry j a lt ∙ sym (gq .old j lt))
+              (λ lt. ap (λ (y : ℕ). at (A y) (upd e t k j)) (from-old j a lt) ∙ ap (at (A (q (p j)))) (put-old ge j lt) ∙ S .entry j a lt ∙ sym (put-old gq j lt))
               (λ eq. subst (λ (y : ℕ). at (A (q′ (p′ y))) (upd e t k y) ≡ q′ y) (sym eq)
-              (ap (λ (y : ℕ). at (A y) (upd e t k t)) (from-new hi) ∙ ap (at (A (q i))) (ge .new) ∙ ex ∙ sym (gq .new)));
+              (ap (λ (y : ℕ). at (A y) (upd e t k t)) (from-new hi) ∙ ap (at (A (q i))) (ge .here) ∙ ex ∙ sym (gq .here)));
           rise = λ j l a b c. up-to l t c
-              (λ lt. (let oj = gp .old j (omega arith) in let ol = gp .old l lt in let h = S .rise j l a b lt in omega arith))
-              (λ eq. (let oj = gp .old j (omega arith) in let ol : p′ l ≡ i = ap p′ eq ∙ gp .new in let h = S .so-far j a (omega arith) in omega arith));
+              (λ lt. (let oj = put-old gp j (omega arith) in let ol = put-old gp l lt in let h = S .rise j l a b lt in omega arith))
+              (λ eq. (let oj = put-old gp j (omega arith) in let ol : p′ l ≡ i = ap p′ eq ∙ gp .here in let h = S .so-far j a (omega arith) in omega arith));
           in-order = λ j l a b c same. up-to l t c
-              (λ lt. (let oj = ge .old j (omega arith) in let ol = ge .old l lt in
-              let h = S .in-order j l a b lt (sym (gp .old j (omega arith)) ∙ same ∙ gp .old l lt) in omega arith))
-              (λ eq. (let oj = ge .old j (omega arith) in let ol : upd e t k l ≡ k = ap (upd e t k) eq ∙ ge .new in
-              let h = S .looked j a (omega arith) (sym (gp .old j (omega arith)) ∙ same ∙ ap p′ eq ∙ gp .new) in omega arith));
-          closed = λ j c h hc. (let qe = gq .old j (omega arith) in
+              (λ lt. (let oj = put-old ge j (omega arith) in let ol = put-old ge l lt in
+              let h = S .in-order j l a b lt (sym (put-old gp j (omega arith)) ∙ same ∙ put-old gp l lt) in omega arith))
+              (λ eq. (let oj = put-old ge j (omega arith) in let ol : upd e t k l ≡ k = ap (upd e t k) eq ∙ ge .here in
+              let h = S .looked j a (omega arith) (sym (put-old gp j (omega arith)) ∙ same ∙ ap p′ eq ∙ gp .here) in omega arith));
+          closed = λ j c h hc. (let qe = put-old gq j (omega arith) in
               ap (λ (y : ℕ). m′ (at (A y) c)) qe ∙ mark-stays (at (A (q j)) c) (S .closed j c h (subst (λ (y : ℕ). c < length (A y)) qe hc)));
-          closing = λ c h. ap (λ (y : ℕ). m′ (at (A y) c)) (gq .old i hi)
+          closing = λ c h. ap (λ (y : ℕ). m′ (at (A y) c)) (put-old gq i hi)
               ∙ up-to c k h (λ lt. mark-stays (at (A (q i)) c) (S .closing c lt)) (λ eq. ap m′ (ap (at (A (q i))) eq ∙ ex) ∙ mx);
         }
 

@@ -7,13 +7,13 @@ use mathlib.Core.List.{List}
 use lib.ListN.{length, set, length-set}
 use Rattle.sums.specs.Sum.{at}
 use Rattle.graph.specs.Lent.{vertices, listOf, Offsets, Targets}
-use Rattle.graph.specs.Work.{Only}
+use Rattle.graph.specs.Work.{Only, Put}
 use Rattle.graph.specs.Marks.{markOf, Marks}
 use Rattle.graph.proofs.Frames.{only-refl, only-trans, at-set-same, at-set-other}
 use Rattle.graph.proofs.Neighbours.{entry-below}
 use Rattle.visit.specs.Visit.{queueIn, upIn}
 use Rattle.visit.specs.Steps.{SeenIn, Meets, queued, Met, old, new, ListAsks, ListAnswers}
-use Rattle.visit.proofs.Growing.{Grown, upd, seen-old, seen-new, fresh-room, few}
+use Rattle.visit.proofs.Growing.{upd, put-old, seen-old, seen-new, fresh-room, few}
 
 -- the list of position i is looked through: k of its entries so far, with work w₀ at its start
 pub record Looking (os ts : List ℕ) (n base i : ℕ) (w₀ w : List ℕ) (k t : ℕ) : Type 0 where
@@ -28,18 +28,18 @@ module _ (n base x i t : ℕ) (w w₁ : List ℕ) (room : base + 3 * n ≤ lengt
   new-other : (j : ℕ) → j ≢ base + t → j ≢ base + n + t → j ≢ base + 2 * n + x / 32 → at (queued n base x i t w₁) j ≡ at w j
   new-other j a b c = at-set-other (set w₁ (base + t) x) (base + n + t) i j b ∙ at-set-other w₁ (base + t) x j a ∙ M .elsewhere j c
 
-  pub new-queue : Grown t x (queueIn w base) (queueIn (queued n base x i t w₁) base)
+  pub new-queue : Put t t x (queueIn w base) (queueIn (queued n base x i t w₁) base)
   new-queue =
       record {
-        old = λ j h. new-other (base + j) (omega arith) (omega arith) (omega arith);
-        new = at-set-other (set w₁ (base + t) x) (base + n + t) i (base + t) (omega arith) ∙ at-set-same w₁ (base + t) x (omega (arith, M .same-length));
+        there = λ j h d. new-other (base + j) (omega arith) (omega arith) (omega arith);
+        here = at-set-other (set w₁ (base + t) x) (base + n + t) i (base + t) (omega arith) ∙ at-set-same w₁ (base + t) x (omega (arith, M .same-length));
       }
 
-  new-up : Grown t i (upIn w n base) (upIn (queued n base x i t w₁) n base)
+  new-up : Put t t i (upIn w n base) (upIn (queued n base x i t w₁) n base)
   new-up =
       record {
-        old = λ j h. new-other (base + n + j) (omega arith) (omega arith) (omega arith);
-        new = at-set-same (set w₁ (base + t) x) (base + n + t) i (omega (arith, M .same-length, length-set w₁ (base + t) x));
+        there = λ j h d. new-other (base + n + j) (omega arith) (omega arith) (omega arith);
+        here = at-set-same (set w₁ (base + t) x) (base + n + t) i (omega (arith, M .same-length, length-set w₁ (base + t) x));
       }
 
   -- the two stores are before the marks
@@ -120,7 +120,7 @@ module _ (os ts : List ℕ) (n : ℕ) (size : n ≡ vertices os) (O : Offsets os
                 hx fresh;
           };
           inside = omega arith;
-          kept = new-queue n base x i t w w₁ room′ hx ht M .old i (L .inside) ∙ L .kept;
+          kept = put-old (new-queue n base x i t w w₁ room′ hx ht M) i (L .inside) ∙ L .kept;
           only = only-trans (L .only) (new-only n base x i t w w₁ room′ hx ht M);
         }
 

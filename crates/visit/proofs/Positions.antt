@@ -1,8 +1,7 @@
 -- A visit that met all n vertices makes them a rooted tree: the parent of a vertex is the one in whose list it was met.
-use Prim.Native.Nat.{ℕ, zero, suc, _+_, _-_, _≤_, _<_}
+use Prim.Native.Nat.{ℕ, zero, suc, _≤_, _<_}
 use native.Mathlib.Omega.{arith}
 use mathlib.Core.Path.{_≡_, refl, sym, ap, _∙_, subst}
-use mathlib.Core.Logic.{inl, inr}
 use mathlib.Core.List.{List, [], _∷_, _++_}
 use lib.ListN.{length}
 use borrow.Author.Tests.{ne-eqb}
@@ -12,19 +11,9 @@ use Rattle.sums.proofs.Pigeon.{injective-inverse, injective-le, onto-le}
 use Rattle.paths.specs.Walk.{In, Stands, From}
 use Rattle.paths.specs.Tree.{AllReached}
 use Rattle.paths.specs.Rooted.{Rooted}
-use Rattle.paths.proofs.Listed.{from-append}
+use Rattle.paths.proofs.Listed.{from-append, at-in, in-at}
 use Rattle.paths.proofs.Canon.{root-ind}
 use Rattle.visit.specs.Visit.{Visited, depthAt, depthOf}
-
--- an entry of a list stands in it, and what stands in a list is an entry
-pub at-in : (l : List ℕ) (i : ℕ) → i < length l → In (at l i) l
-at-in [] i h = absurd (omega arith)
-at-in (x ∷ l) zero h = inl refl
-at-in (x ∷ l) (suc i) h = inr (at-in l i (omega arith))
-
-pub in-at : (x : ℕ) (l : List ℕ) → In x l → (i : ℕ) × (i < length l) × (at l i ≡ x)
-in-at x (y ∷ l) (inl e) = (0, omega arith, sym e)
-in-at x (y ∷ l) (inr h) = (let r = in-at x l h in (suc (r .0), (let k = r .1 in omega arith), r .2))
 
 -- depths of positions, where each position was met from an earlier one
 module _ (p : ℕ → ℕ) (t : ℕ) (earlier : (j : ℕ) → 0 < j → j < t → p j < j) where
