@@ -1,12 +1,13 @@
 -- Laws of judging: a test's answer, and the first test that is not passed.
-use Prim.Native.Nat.{ℕ, _≤_}
-use mathlib.Core.Path.{_≡_, sym, _∙_}
+use Prim.Native.Nat.{ℕ, _+_, _≤_, _<_}
+use mathlib.Core.Path.{_≡_, refl, sym, _∙_}
 use native.Mathlib.Omega.{arith}
 use mathlib.Core.Logic.{inl, inr, by-cases}
 use native.Mathlib.Decide.{decLe}
 use mathlib.Core.Bool.{Bool, true, false, not, true≢false}
 use mathlib.Core.List.{List, [], _∷_}
 use lib.Dec.{leb, eqb}
+use borrow.Author.Count.{below-more}
 use borrow.Author.Tests.{leb-true, leb-false, eqb-true, eqb-false, not-true, not-false}
 use lib.ListN.{length}
 use Rattle.graph.specs.Judgement.{Test, First, Decides}
@@ -26,6 +27,19 @@ decides-leb a b to back = record { right = λ e. to (leb-true a b e); wrong = λ
 
 pub decides-eqb : {P : Type 0} (a b : ℕ) → (a ≡ b → P) → (P → a ≡ b) → Decides P (eqb a b)
 decides-eqb a b to back = record { right = λ e. to (eqb-true a b e); wrong = λ e p. eqb-false a b e (back p) }
+
+-- what holds of the numbers below k and of k itself: `held` decides the one, and r that it was so and Q, which says the other
+pub decides-more : (P : ℕ → Type 0) (k : ℕ) {held r : Bool} {Q : Type 0}
+    → Decides ((j : ℕ) → j < k → P j) held → Decides ((held ≡ true) × Q) r → (Q → P k) → (P k → Q) → Decides ((j : ℕ) → j < k + 1 → P j) r
+decides-more P k {held} {r} {Q} before now to back =
+    record {
+      right = λ e. below-more P k (before .right (now .right e .0)) (to (now .right e .1));
+      wrong = λ e all. now .wrong e (sure held refl all, back (all k (omega arith)));
+    }
+  where
+    sure : (b : Bool) → held ≡ b → ((j : ℕ) → j < k + 1 → P j) → held ≡ true
+    sure true e all = e
+    sure false e all = absurd (before .wrong e (λ j h. all j (omega arith)))
 
 -- what a test that is asked the other way round says
 pub passed : {P : Type 0} {r : Bool} → Decides P r → not r ≡ false → P

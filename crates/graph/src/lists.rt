@@ -2,6 +2,7 @@
 use crate::codes::MAX_TARGETS;
 use crate::codes::MAX_VERTICES;
 ghost use mathlib.Core.Path.{_≡_};
+ghost use mathlib.Core.Bool.{true};
 ghost use mathlib.Core.List.{[]};
 ghost use Prim.Native.Nat.{_≤_};
 ghost use Rattle.graph.specs.Judgement.{Decides};
@@ -50,6 +51,17 @@ pub fn sized(offsets: &[u32], targets: &[u32]) -> bool
     targets.len() <= MAX_TARGETS
 }
 
+// Whether what held so far still does: that a is at most b. A loop that goes on to its end whatever it finds lets the compiler look at several entries at
+// once.
+fn still(held: bool, a: usize, b: usize) -> bool
+    ensures { λ r. ⌜ Decides ((held ≡ true) × (a ≤ b)) r ⌝ }
+{
+    if b < a {
+        return false;
+    }
+    held
+}
+
 // Whether the first offset is 0, no offset falls and the last is the number of targets.
 pub fn sound_offsets(offsets: &[u32], targets: &[u32]) -> bool
     requires { ⌜ 1 ≤ vertices (now offsets) ⌝ }
@@ -59,12 +71,14 @@ pub fn sound_offsets(offsets: &[u32], targets: &[u32]) -> bool
     if offsets[0] != 0 {
         return false;
     }
+    let mut rises = true;
     let mut u: usize = 0;
     while u < n {
-        if offsets[u + 1] < offsets[u] {
-            return false;
-        }
+        rises = still(rises, offsets[u] as usize, offsets[u + 1] as usize);
         u += 1;
+    }
+    if !rises {
+        return false;
     }
     offsets[n] as usize == targets.len()
 }
@@ -75,12 +89,11 @@ pub fn sound_targets(offsets: &[u32], targets: &[u32]) -> bool
     ensures { λ r. ⌜ Decides (Targets (now (offsets .entry)) (now (targets .entry))) r ⌝ }
 {
     let n = offsets.len() - 1;
+    let mut below = true;
     let mut e: usize = 0;
     while e < targets.len() {
-        if n <= targets[e] as usize {
-            return false;
-        }
+        below = still(below, targets[e] as usize, n - 1);
         e += 1;
     }
-    true
+    below
 }

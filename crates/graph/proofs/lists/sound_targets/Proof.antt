@@ -1,37 +1,42 @@
+-- `lists::sound_targets` meets its contract: the loop decides it of the targets up to here.
 use Rattle.graph.proofs.lists.sound_targets.Statement.{statement}
 use Rattle.graph.proofs.lists.sound_targets.Tie as tie
 use borrow.Author.Needs.{needs}
 use Prim.Native.Nat.{ℕ, _≤_, _<_, _-_}
 use native.Mathlib.Omega.{arith}
 use lib.ListN.{length}
-use borrow.Author.Count.{below-more}
 use Rattle.sums.specs.Sum.{at}
+use Rattle.graph.specs.Judgement.{Decides}
 use Rattle.graph.specs.Lent.{vertices}
-use Rattle.graph.proofs.Judging.{decides-no, decides-yes}
+use Rattle.graph.proofs.Judging.{decides-yes, decides-more}
+use mir.Facts.{fits-widen}
 
 abbrev Inv-loop : tie.InvT-loop
-Inv-loop offsets targets n e₀ e = (e ≤ length targets) × ((k : ℕ) → k < e → at targets k < vertices offsets)
+Inv-loop offsets targets n below₀ e₀ below e = (e ≤ length targets) × Decides ((k : ℕ) → k < e → at targets k < vertices offsets) below
 
 abbrev μ-loop : tie.MeasureT-loop
-μ-loop offsets targets n e₀ e = length targets - e
+μ-loop offsets targets n below₀ e₀ below e = length targets - e
 
 sub-n : tie.Need-sub-n Inv-loop μ-loop
 sub-n c = search needs
 
 loop-holds : tie.Need-loop-holds Inv-loop μ-loop
-loop-holds c = (omega arith, λ k h. absurd (omega arith))
+loop-holds c = (omega arith, decides-yes (λ k h. absurd (omega arith)))
 
-mul-if1 : tie.Need-mul-if1 Inv-loop μ-loop
-mul-if1 c = search needs
+mul-still : tie.Need-mul-still Inv-loop μ-loop
+mul-still c = search needs
 
-shared-slice-read-if1 : tie.Need-shared-slice-read-if1 Inv-loop μ-loop
-shared-slice-read-if1 c = search needs
+shared-slice-read-still : tie.Need-shared-slice-read-still Inv-loop μ-loop
+shared-slice-read-still c = search needs
 
-cast-if1 : tie.Need-cast-if1 Inv-loop μ-loop
-cast-if1 c = omega (arith, c .shared-slice-known .given (c .before .before .loop .e))
+cast-still : tie.Need-cast-still Inv-loop μ-loop
+cast-still c = fits-widen tt (c .shared-slice-known3 .given _)
 
-returns : tie.Need-returns Inv-loop μ-loop
-returns c = decides-no (λ s. omega (arith, s (c .before .before .before .loop .e) (c .before .before .loop-test .taken)))
+sub-still : tie.Need-sub-still Inv-loop μ-loop
+sub-still c = search needs
+
+still-requires : tie.Need-still-requires Inv-loop μ-loop
+still-requires c κs = search needs
 
 add-e : tie.Need-add-e Inv-loop μ-loop
 add-e c = search needs
@@ -40,10 +45,10 @@ loop-less : tie.Need-loop-less Inv-loop μ-loop
 loop-less c = search needs
 
 loop-again : tie.Need-loop-again Inv-loop μ-loop
-loop-again c = (omega arith, below-more _ _ (c .before .before .before .loop .inv .1) (c .if1 .left))
+loop-again c = (omega arith, decides-more (λ k. at (c .before .before .before .before .before .before .args .targets .now) k < vertices (c .before .before .before .before .before .before .args .offsets .now)) (c .before .before .before .loop .e) (c .before .before .before .loop .inv .1) (c .still .ensures) (λ q. omega (arith, c .before .before .before .before .before .before .pre)) (λ p. omega arith))
 
-returns-2 : tie.Need-returns-2 Inv-loop μ-loop
-returns-2 c = decides-yes (λ k h. c .before .loop .inv .1 k (omega arith))
+returns : tie.Need-returns Inv-loop μ-loop
+returns c = record { right = λ x k h. c .before .loop .inv .1 .right x k (omega arith); wrong = λ x s. c .before .loop .inv .1 .wrong x (λ k h. s k (omega arith)) }
 
 pub sound-targets-spec : {M : Type 1} → statement M
 sound-targets-spec =
@@ -53,11 +58,12 @@ sound-targets-spec =
     μ-loop
     sub-n
     loop-holds
-    mul-if1
-    shared-slice-read-if1
-    cast-if1
-    returns
+    mul-still
+    shared-slice-read-still
+    cast-still
+    sub-still
+    still-requires
     add-e
     loop-less
     loop-again
-    returns-2)
+    returns)
