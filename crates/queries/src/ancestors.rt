@@ -38,8 +38,8 @@ fn entry_at(n: usize, depth: &[u32], id: &[u32], order: &[u32], i: usize, d: usi
     Answer::Is(y)
 }
 
-// k steps up from p, a place that was reached: on its chain, or off it while chains may be left. Either way the head of the chain must hang. `room` is n, halved once for each chain that was left: one more may be
-// left while it is 2 or more, so at most the floor of log2 n are.
+// k steps up from p, a place that was reached: on its chain, or off it while chains may be left; either way the head of the chain must hang.
+// `room` is n, halved once for each chain that was left: one more may be left while it is 2 or more, so at most the floor of log2 n are.
 fn one_chain(
     parent: &[u32],
     depth: &[u32],
