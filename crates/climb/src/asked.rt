@@ -2,7 +2,7 @@
 use crate::answers::Refusal;
 use graph::codes::MAX_VERTICES;
 ghost use mathlib.Core.Path.{_≡_};
-ghost use Rattle.tables.specs.Tables.{six};
+ghost use Rattle.tables.specs.Tables.{lent};
 ghost use Rattle.climb.specs.Asked.{tables?, vertices?, asked as askedOf};
 ghost use Rattle.climb.specs.declared.asked.Verdict.the-variants.{Ready, Refused};
 
@@ -21,7 +21,7 @@ fn tables(
     order: &[u32],
     size: &[u32],
 ) -> bool
-    ensures { λ r. ⌜ r ≡ tables? (six (now (parent .entry)) (now (depth .entry)) (now (head .entry)) (now (id .entry)) (now (order .entry)) (now (size .entry))) ⌝ }
+    ensures { λ r. ⌜ r ≡ tables? (lent parent depth head id order size) ⌝ }
 {
     if parent.len() < 1 {
         return false;
@@ -68,7 +68,7 @@ pub fn asked(
     size: &[u32],
     vertices: &[usize],
 ) -> Verdict
-    ensures { λ r. ⌜ r ≡ askedOf (six (now (parent .entry)) (now (depth .entry)) (now (head .entry)) (now (id .entry)) (now (order .entry)) (now (size .entry))) (now (vertices .entry)) Refused Ready ⌝ }
+    ensures { λ r. ⌜ r ≡ askedOf (lent parent depth head id order size) (now (vertices .entry)) Refused Ready ⌝ }
 {
     if !tables(parent, depth, head, id, order, size) {
         return Verdict::Refused(Refusal::BadSize);

@@ -9,7 +9,7 @@ use passes::weigh;
 use scatter::scatter;
 use validate::judge;
 ghost use Rattle.graph.specs.Judgement.{Decides};
-ghost use Rattle.tables.specs.Tables.{six, Long};
+ghost use Rattle.tables.specs.Tables.{Long, lent, left, sixOf};
 ghost use Rattle.hld.specs.Build.{Builds};
 ghost use Rattle.hld.specs.Steps.{BuildAsks, Built};
 
@@ -23,7 +23,7 @@ fn long(
     order: &[u32],
     size: &[u32],
 ) -> bool
-    ensures { λ r. ⌜ Decides (Long n (six (now (parent .entry)) (now (depth .entry)) (now (head .entry)) (now (id .entry)) (now (order .entry)) (now (size .entry)))) r ⌝ }
+    ensures { λ r. ⌜ Decides (Long n (lent parent depth head id order size)) r ⌝ }
 {
     if parent.len() != n {
         return false;
@@ -57,8 +57,8 @@ fn build(
     size: &mut [u32],
     work: &mut [u32],
 ) -> u32
-    requires { ⌜ BuildAsks (now offsets) (now targets) (six (now parent) (now depth) (now head) (now id) (now order) (now size)) (now work) ⌝ }
-    ensures { λ r. ⌜ Built (now (offsets .entry)) (now (targets .entry)) root (six (now (parent .entry)) (now (depth .entry)) (now (head .entry)) (now (id .entry)) (now (order .entry)) (now (size .entry))) (now (work .entry)) (six (now (parent .exit)) (now (depth .exit)) (now (head .exit)) (now (id .exit)) (now (order .exit)) (now (size .exit))) (now (work .exit)) r ⌝ }
+    requires { ⌜ BuildAsks (now offsets) (now targets) (sixOf parent depth head id order size) (now work) ⌝ }
+    ensures { λ r. ⌜ Built (now (offsets .entry)) (now (targets .entry)) root (lent parent depth head id order size) (now (work .entry)) (left parent depth head id order size) (now (work .exit)) r ⌝ }
 {
     let code = judge(offsets, targets, root, work);
     if code != DONE {
@@ -86,7 +86,7 @@ pub fn try_hld(
     size: &mut [u32],
     work: &mut [u32],
 ) -> u32
-    ensures { λ r. ⌜ Builds (now (offsets .entry)) (now (targets .entry)) root (six (now (parent .entry)) (now (depth .entry)) (now (head .entry)) (now (id .entry)) (now (order .entry)) (now (size .entry))) (now (work .entry)) (six (now (parent .exit)) (now (depth .exit)) (now (head .exit)) (now (id .exit)) (now (order .exit)) (now (size .exit))) (now (work .exit)) r ⌝ }
+    ensures { λ r. ⌜ Builds (now (offsets .entry)) (now (targets .entry)) root (lent parent depth head id order size) (now (work .entry)) (left parent depth head id order size) (now (work .exit)) r ⌝ }
 {
     if !sized(offsets, targets) {
         return BAD_SIZE;

@@ -10,7 +10,7 @@ use climb::sound::reach_above;
 use graph::codes::NO_PARENT;
 ghost use mathlib.Core.Path.{_≡_};
 ghost use Rattle.numbering.specs.Log.{log2};
-ghost use Rattle.tables.specs.Tables.{six};
+ghost use Rattle.tables.specs.Tables.{lent};
 ghost use Rattle.queries.specs.Queries.{kthAncestor};
 ghost use Rattle.queries.specs.Inner.{Looks, Looked, Rises, OneChain, Risen, Finds, Found};
 
@@ -133,7 +133,7 @@ pub fn kth_ancestor(
     v: usize,
     k: usize,
 ) -> Answer
-    ensures { λ answer. ⌜ answer ≡ kthAncestor (six (now (parent .entry)) (now (depth .entry)) (now (head .entry)) (now (id .entry)) (now (order .entry)) (now (size .entry))) v k ⌝ }
+    ensures { λ answer. ⌜ answer ≡ kthAncestor (lent parent depth head id order size) v k ⌝ }
 {
     if let Verdict::Refused(refusal) = asked(parent, depth, head, id, order, size, &[v]) {
         return Answer::Refused(refusal);

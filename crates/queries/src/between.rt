@@ -10,7 +10,7 @@ use climb::places::Place;
 use climb::sound::hangs;
 use climb::sound::reach;
 ghost use mathlib.Core.Path.{_≡_};
-ghost use Rattle.tables.specs.Tables.{six};
+ghost use Rattle.tables.specs.Tables.{lent};
 ghost use Rattle.climb.specs.Inner.{ClimbsFrom};
 ghost use Rattle.queries.specs.Inner.{EndedAt, deeperCandidate as deeperOf, Deepest, Jumps, Jumped};
 ghost use Rattle.queries.specs.Queries.{distance as distanceOf, lca as lcaOf, jump as jumpOf};
@@ -37,7 +37,7 @@ pub fn distance(
     u: usize,
     v: usize,
 ) -> Answer
-    ensures { λ answer. ⌜ answer ≡ distanceOf (six (now (parent .entry)) (now (depth .entry)) (now (head .entry)) (now (id .entry)) (now (order .entry)) (now (size .entry))) u v ⌝ }
+    ensures { λ answer. ⌜ answer ≡ distanceOf (lent parent depth head id order size) u v ⌝ }
 {
     if let Verdict::Refused(refusal) = asked(parent, depth, head, id, order, size, &[u, v]) {
         return Answer::Refused(refusal);
@@ -104,7 +104,7 @@ pub fn lca(
     u: usize,
     v: usize,
 ) -> Answer
-    ensures { λ answer. ⌜ answer ≡ lcaOf (six (now (parent .entry)) (now (depth .entry)) (now (head .entry)) (now (id .entry)) (now (order .entry)) (now (size .entry))) r u v ⌝ }
+    ensures { λ answer. ⌜ answer ≡ lcaOf (lent parent depth head id order size) r u v ⌝ }
 {
     if let Verdict::Refused(refusal) = asked(parent, depth, head, id, order, size, &[r, u, v]) {
         return Answer::Refused(refusal);
@@ -187,7 +187,7 @@ pub fn jump(
     v: usize,
     k: usize,
 ) -> Answer
-    ensures { λ answer. ⌜ answer ≡ jumpOf (six (now (parent .entry)) (now (depth .entry)) (now (head .entry)) (now (id .entry)) (now (order .entry)) (now (size .entry))) u v k ⌝ }
+    ensures { λ answer. ⌜ answer ≡ jumpOf (lent parent depth head id order size) u v k ⌝ }
 {
     if let Verdict::Refused(refusal) = asked(parent, depth, head, id, order, size, &[u, v]) {
         return Answer::Refused(refusal);

@@ -10,7 +10,7 @@ use climb::sound::stand;
 ghost use mathlib.Core.Path.{_≡_};
 ghost use Prim.Native.Nat.{_+_, _<_, _^_};
 ghost use lib.ListN.{length};
-ghost use Rattle.tables.specs.Tables.{six};
+ghost use Rattle.tables.specs.Tables.{lent};
 ghost use Rattle.queries.specs.Inner.{counted?, Counts, LeftOver, ReRoots};
 ghost use Rattle.queries.specs.Queries.{subtreeRange, reRootedSize, subtreeSize};
 
@@ -35,7 +35,7 @@ pub fn subtree_range(
     size: &[u32],
     v: usize,
 ) -> Interval
-    ensures { λ answer. ⌜ answer ≡ subtreeRange (six (now (parent .entry)) (now (depth .entry)) (now (head .entry)) (now (id .entry)) (now (order .entry)) (now (size .entry))) v ⌝ }
+    ensures { λ answer. ⌜ answer ≡ subtreeRange (lent parent depth head id order size) v ⌝ }
 {
     if let Verdict::Refused(refusal) = asked(parent, depth, head, id, order, size, &[v]) {
         return Interval::Refused(refusal);
@@ -65,7 +65,7 @@ fn re_rooted_size(
     b: Place,
 ) -> Answer
     requires { ⌜ ReRoots (now parent) (now depth) (now head) (now id) (now order) (now size) a b ⌝ }
-    ensures { λ r. ⌜ r ≡ reRootedSize (length (now (parent .entry))) (six (now (parent .entry)) (now (depth .entry)) (now (head .entry)) (now (id .entry)) (now (order .entry)) (now (size .entry))) (a .vertex) (b .vertex) ⌝ }
+    ensures { λ r. ⌜ r ≡ reRootedSize (length (now (parent .entry))) (lent parent depth head id order size) (a .vertex) (b .vertex) ⌝ }
 {
     let v = b.vertex;
     let count = size[v] as usize;
@@ -112,7 +112,7 @@ pub fn subtree_size(
     r: usize,
     v: usize,
 ) -> Answer
-    ensures { λ answer. ⌜ answer ≡ subtreeSize (six (now (parent .entry)) (now (depth .entry)) (now (head .entry)) (now (id .entry)) (now (order .entry)) (now (size .entry))) r v ⌝ }
+    ensures { λ answer. ⌜ answer ≡ subtreeSize (lent parent depth head id order size) r v ⌝ }
 {
     if let Verdict::Refused(refusal) = asked(parent, depth, head, id, order, size, &[r, v]) {
         return Answer::Refused(refusal);

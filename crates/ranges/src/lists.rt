@@ -11,7 +11,7 @@ use climb::climbing::climb_to_lca;
 use climb::places::Climbed;
 use climb::sound::hangs;
 use climb::sound::reach;
-ghost use Rattle.tables.specs.Tables.{six};
+ghost use Rattle.tables.specs.Tables.{lent};
 ghost use Rattle.ranges.specs.Calls.{rangesOf};
 ghost use Rattle.ranges.specs.Inner.{ListedAs, Climbs, ClimbedBetween};
 ghost use Rattle.ranges.specs.declared.kinds.Kind.the-variants.{Vertices, Edges, Both};
@@ -58,7 +58,7 @@ fn path_ranges(
     v: usize,
     ranges: &mut [u32],
 ) -> Listed
-    ensures { λ r. ⌜ ListedAs (rangesOf kind (six (now (parent .entry)) (now (depth .entry)) (now (head .entry)) (now (id .entry)) (now (order .entry)) (now (size .entry))) u v) (now (ranges .entry)) (now (ranges .exit)) r ⌝ }
+    ensures { λ r. ⌜ ListedAs (rangesOf kind (lent parent depth head id order size) u v) (now (ranges .entry)) (now (ranges .exit)) r ⌝ }
 {
     if let Verdict::Refused(refusal) = asked(parent, depth, head, id, order, size, &[u, v]) {
         return Listed::Refused(refusal);
@@ -86,7 +86,7 @@ pub fn vertex_path_ranges(
     v: usize,
     ranges: &mut [u32],
 ) -> Listed
-    ensures { λ r. ⌜ ListedAs (rangesOf Vertices (six (now (parent .entry)) (now (depth .entry)) (now (head .entry)) (now (id .entry)) (now (order .entry)) (now (size .entry))) u v) (now (ranges .entry)) (now (ranges .exit)) r ⌝ }
+    ensures { λ r. ⌜ ListedAs (rangesOf Vertices (lent parent depth head id order size) u v) (now (ranges .entry)) (now (ranges .exit)) r ⌝ }
 {
     path_ranges(
         Kind::Vertices,
@@ -114,7 +114,7 @@ pub fn edge_path_ranges(
     v: usize,
     ranges: &mut [u32],
 ) -> Listed
-    ensures { λ r. ⌜ ListedAs (rangesOf Edges (six (now (parent .entry)) (now (depth .entry)) (now (head .entry)) (now (id .entry)) (now (order .entry)) (now (size .entry))) u v) (now (ranges .entry)) (now (ranges .exit)) r ⌝ }
+    ensures { λ r. ⌜ ListedAs (rangesOf Edges (lent parent depth head id order size) u v) (now (ranges .entry)) (now (ranges .exit)) r ⌝ }
 {
     path_ranges(
         Kind::Edges,
@@ -142,7 +142,7 @@ pub fn vertex_edge_path_ranges(
     v: usize,
     ranges: &mut [u32],
 ) -> Listed
-    ensures { λ r. ⌜ ListedAs (rangesOf Both (six (now (parent .entry)) (now (depth .entry)) (now (head .entry)) (now (id .entry)) (now (order .entry)) (now (size .entry))) u v) (now (ranges .entry)) (now (ranges .exit)) r ⌝ }
+    ensures { λ r. ⌜ ListedAs (rangesOf Both (lent parent depth head id order size) u v) (now (ranges .entry)) (now (ranges .exit)) r ⌝ }
 {
     path_ranges(
         Kind::Both,

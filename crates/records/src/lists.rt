@@ -6,7 +6,7 @@ use crate::plans::vertex_edge_plan;
 use crate::plans::vertex_plan;
 use ranges::kinds::Listed;
 use ranges::kinds::PathRange;
-ghost use Rattle.tables.specs.Tables.{six};
+ghost use Rattle.tables.specs.Tables.{lent};
 ghost use Rattle.ranges.specs.Calls.{rangesOf};
 ghost use Rattle.ranges.specs.declared.kinds.Kind.the-variants.{Vertices, Edges, Both};
 ghost use Rattle.records.specs.Records.{RecordedAs};
@@ -23,7 +23,7 @@ pub fn vertex_path_records(
     v: usize,
     ranges: &mut [PathRange],
 ) -> Listed
-    ensures { λ r. ⌜ RecordedAs (rangesOf Vertices (six (now (parent .entry)) (now (depth .entry)) (now (head .entry)) (now (id .entry)) (now (order .entry)) (now (size .entry))) u v) (now (ranges .entry)) (now (ranges .exit)) r ⌝ }
+    ensures { λ r. ⌜ RecordedAs (rangesOf Vertices (lent parent depth head id order size) u v) (now (ranges .entry)) (now (ranges .exit)) r ⌝ }
 {
     let plan = vertex_plan(parent, depth, head, id, order, size, u, v, ranges.len());
     copy_records(plan, ranges)
@@ -41,7 +41,7 @@ pub fn edge_path_records(
     v: usize,
     ranges: &mut [PathRange],
 ) -> Listed
-    ensures { λ r. ⌜ RecordedAs (rangesOf Edges (six (now (parent .entry)) (now (depth .entry)) (now (head .entry)) (now (id .entry)) (now (order .entry)) (now (size .entry))) u v) (now (ranges .entry)) (now (ranges .exit)) r ⌝ }
+    ensures { λ r. ⌜ RecordedAs (rangesOf Edges (lent parent depth head id order size) u v) (now (ranges .entry)) (now (ranges .exit)) r ⌝ }
 {
     let plan = edge_plan(parent, depth, head, id, order, size, u, v, ranges.len());
     copy_records(plan, ranges)
@@ -59,7 +59,7 @@ pub fn vertex_edge_path_records(
     v: usize,
     ranges: &mut [PathRange],
 ) -> Listed
-    ensures { λ r. ⌜ RecordedAs (rangesOf Both (six (now (parent .entry)) (now (depth .entry)) (now (head .entry)) (now (id .entry)) (now (order .entry)) (now (size .entry))) u v) (now (ranges .entry)) (now (ranges .exit)) r ⌝ }
+    ensures { λ r. ⌜ RecordedAs (rangesOf Both (lent parent depth head id order size) u v) (now (ranges .entry)) (now (ranges .exit)) r ⌝ }
 {
     let plan = vertex_edge_plan(parent, depth, head, id, order, size, u, v, ranges.len());
     copy_records(plan, ranges)

@@ -8,7 +8,7 @@ use ranges::lists::vertex_edge_path_ranges;
 use ranges::lists::vertex_path_ranges;
 ghost use mathlib.Core.Path.{_≡_};
 ghost use Prim.Native.Nat.{_<_};
-ghost use Rattle.tables.specs.Tables.{six};
+ghost use Rattle.tables.specs.Tables.{lent};
 ghost use Rattle.ranges.specs.Calls.{rangesOf};
 ghost use Rattle.ranges.specs.declared.kinds.Kind.the-variants.{Vertices, Edges, Both};
 ghost use Rattle.records.specs.Inner.{mostRanges, directionOf, recordAt, planOf, Planned};
@@ -85,7 +85,7 @@ pub(crate) fn vertex_plan(
     v: usize,
     room: usize,
 ) -> Plan
-    ensures { λ r. ⌜ Planned (rangesOf Vertices (six (now (parent .entry)) (now (depth .entry)) (now (head .entry)) (now (id .entry)) (now (order .entry)) (now (size .entry))) u v) room r ⌝ }
+    ensures { λ r. ⌜ Planned (rangesOf Vertices (lent parent depth head id order size) u v) room r ⌝ }
 {
     let mut numbers = [0; MOST_NUMBERS];
     let listed = vertex_path_ranges(parent, depth, head, id, order, size, u, v, &mut numbers);
@@ -104,7 +104,7 @@ pub(crate) fn edge_plan(
     v: usize,
     room: usize,
 ) -> Plan
-    ensures { λ r. ⌜ Planned (rangesOf Edges (six (now (parent .entry)) (now (depth .entry)) (now (head .entry)) (now (id .entry)) (now (order .entry)) (now (size .entry))) u v) room r ⌝ }
+    ensures { λ r. ⌜ Planned (rangesOf Edges (lent parent depth head id order size) u v) room r ⌝ }
 {
     let mut numbers = [0; MOST_NUMBERS];
     let listed = edge_path_ranges(parent, depth, head, id, order, size, u, v, &mut numbers);
@@ -123,7 +123,7 @@ pub(crate) fn vertex_edge_plan(
     v: usize,
     room: usize,
 ) -> Plan
-    ensures { λ r. ⌜ Planned (rangesOf Both (six (now (parent .entry)) (now (depth .entry)) (now (head .entry)) (now (id .entry)) (now (order .entry)) (now (size .entry))) u v) room r ⌝ }
+    ensures { λ r. ⌜ Planned (rangesOf Both (lent parent depth head id order size) u v) room r ⌝ }
 {
     let mut numbers = [0; MOST_NUMBERS];
     let listed = vertex_edge_path_ranges(parent, depth, head, id, order, size, u, v, &mut numbers);

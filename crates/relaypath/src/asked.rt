@@ -1,7 +1,7 @@
 // Queries on six lent tables under their C names. Each answers its code; the value goes into `answer`, which a refusal leaves as it was.
 use crate::handed::hand;
 use crate::handed::hand_ends;
-ghost use Rattle.tables.specs.Tables.{six};
+ghost use Rattle.tables.specs.Tables.{lent};
 ghost use Rattle.queries.specs.Queries.{vertexCount, rootOf, depthOf, vertexId, distance as distanceOf, lca as lcaOf, kthAncestor, jump as jumpOf, subtreeSize, subtreeRange};
 ghost use Rattle.relaypath.specs.Handed.{Handed, HandedEnds};
 
@@ -16,7 +16,7 @@ pub extern "C" fn relaypath_vertex_count(
     size: &[u32],
     answer: &mut usize,
 ) -> u32
-    ensures { λ code. ⌜ Handed (vertexCount (six (now (parent .entry)) (now (depth .entry)) (now (head .entry)) (now (id .entry)) (now (order .entry)) (now (size .entry)))) (now (answer .entry)) (now (answer .exit)) code ⌝ }
+    ensures { λ code. ⌜ Handed (vertexCount (lent parent depth head id order size)) (now (answer .entry)) (now (answer .exit)) code ⌝ }
 {
     let found = queries::reads::vertex_count(parent, depth, head, id, order, size);
     hand(found, answer)
@@ -33,7 +33,7 @@ pub extern "C" fn relaypath_root(
     size: &[u32],
     answer: &mut usize,
 ) -> u32
-    ensures { λ code. ⌜ Handed (rootOf (six (now (parent .entry)) (now (depth .entry)) (now (head .entry)) (now (id .entry)) (now (order .entry)) (now (size .entry)))) (now (answer .entry)) (now (answer .exit)) code ⌝ }
+    ensures { λ code. ⌜ Handed (rootOf (lent parent depth head id order size)) (now (answer .entry)) (now (answer .exit)) code ⌝ }
 {
     let found = queries::reads::root(parent, depth, head, id, order, size);
     hand(found, answer)
@@ -51,7 +51,7 @@ pub extern "C" fn relaypath_depth(
     v: usize,
     answer: &mut usize,
 ) -> u32
-    ensures { λ code. ⌜ Handed (depthOf (six (now (parent .entry)) (now (depth .entry)) (now (head .entry)) (now (id .entry)) (now (order .entry)) (now (size .entry))) v) (now (answer .entry)) (now (answer .exit)) code ⌝ }
+    ensures { λ code. ⌜ Handed (depthOf (lent parent depth head id order size) v) (now (answer .entry)) (now (answer .exit)) code ⌝ }
 {
     let found = queries::reads::depth(parent, depth, head, id, order, size, v);
     hand(found, answer)
@@ -69,7 +69,7 @@ pub extern "C" fn relaypath_vertex_id(
     v: usize,
     answer: &mut usize,
 ) -> u32
-    ensures { λ code. ⌜ Handed (vertexId (six (now (parent .entry)) (now (depth .entry)) (now (head .entry)) (now (id .entry)) (now (order .entry)) (now (size .entry))) v) (now (answer .entry)) (now (answer .exit)) code ⌝ }
+    ensures { λ code. ⌜ Handed (vertexId (lent parent depth head id order size) v) (now (answer .entry)) (now (answer .exit)) code ⌝ }
 {
     let found = queries::reads::vertex_id(parent, depth, head, id, order, size, v);
     hand(found, answer)
@@ -88,7 +88,7 @@ pub extern "C" fn relaypath_distance(
     v: usize,
     answer: &mut usize,
 ) -> u32
-    ensures { λ code. ⌜ Handed (distanceOf (six (now (parent .entry)) (now (depth .entry)) (now (head .entry)) (now (id .entry)) (now (order .entry)) (now (size .entry))) u v) (now (answer .entry)) (now (answer .exit)) code ⌝ }
+    ensures { λ code. ⌜ Handed (distanceOf (lent parent depth head id order size) u v) (now (answer .entry)) (now (answer .exit)) code ⌝ }
 {
     let found = queries::between::distance(parent, depth, head, id, order, size, u, v);
     hand(found, answer)
@@ -108,7 +108,7 @@ pub extern "C" fn relaypath_lca(
     v: usize,
     answer: &mut usize,
 ) -> u32
-    ensures { λ code. ⌜ Handed (lcaOf (six (now (parent .entry)) (now (depth .entry)) (now (head .entry)) (now (id .entry)) (now (order .entry)) (now (size .entry))) r u v) (now (answer .entry)) (now (answer .exit)) code ⌝ }
+    ensures { λ code. ⌜ Handed (lcaOf (lent parent depth head id order size) r u v) (now (answer .entry)) (now (answer .exit)) code ⌝ }
 {
     let found = queries::between::lca(parent, depth, head, id, order, size, r, u, v);
     hand(found, answer)
@@ -127,7 +127,7 @@ pub extern "C" fn relaypath_kth_ancestor(
     k: usize,
     answer: &mut usize,
 ) -> u32
-    ensures { λ code. ⌜ Handed (kthAncestor (six (now (parent .entry)) (now (depth .entry)) (now (head .entry)) (now (id .entry)) (now (order .entry)) (now (size .entry))) v k) (now (answer .entry)) (now (answer .exit)) code ⌝ }
+    ensures { λ code. ⌜ Handed (kthAncestor (lent parent depth head id order size) v k) (now (answer .entry)) (now (answer .exit)) code ⌝ }
 {
     let found = queries::ancestors::kth_ancestor(parent, depth, head, id, order, size, v, k);
     hand(found, answer)
@@ -147,7 +147,7 @@ pub extern "C" fn relaypath_jump(
     k: usize,
     answer: &mut usize,
 ) -> u32
-    ensures { λ code. ⌜ Handed (jumpOf (six (now (parent .entry)) (now (depth .entry)) (now (head .entry)) (now (id .entry)) (now (order .entry)) (now (size .entry))) u v k) (now (answer .entry)) (now (answer .exit)) code ⌝ }
+    ensures { λ code. ⌜ Handed (jumpOf (lent parent depth head id order size) u v k) (now (answer .entry)) (now (answer .exit)) code ⌝ }
 {
     let found = queries::between::jump(parent, depth, head, id, order, size, u, v, k);
     hand(found, answer)
@@ -166,7 +166,7 @@ pub extern "C" fn relaypath_subtree_size(
     v: usize,
     answer: &mut usize,
 ) -> u32
-    ensures { λ code. ⌜ Handed (subtreeSize (six (now (parent .entry)) (now (depth .entry)) (now (head .entry)) (now (id .entry)) (now (order .entry)) (now (size .entry))) r v) (now (answer .entry)) (now (answer .exit)) code ⌝ }
+    ensures { λ code. ⌜ Handed (subtreeSize (lent parent depth head id order size) r v) (now (answer .entry)) (now (answer .exit)) code ⌝ }
 {
     let found = queries::sizes::subtree_size(parent, depth, head, id, order, size, r, v);
     hand(found, answer)
@@ -185,7 +185,7 @@ pub extern "C" fn relaypath_subtree_range(
     start: &mut usize,
     end: &mut usize,
 ) -> u32
-    ensures { λ code. ⌜ HandedEnds (subtreeRange (six (now (parent .entry)) (now (depth .entry)) (now (head .entry)) (now (id .entry)) (now (order .entry)) (now (size .entry))) v) (now (start .entry)) (now (end .entry)) (now (start .exit)) (now (end .exit)) code ⌝ }
+    ensures { λ code. ⌜ HandedEnds (subtreeRange (lent parent depth head id order size) v) (now (start .entry)) (now (end .entry)) (now (start .exit)) (now (end .exit)) code ⌝ }
 {
     let found = queries::sizes::subtree_range(parent, depth, head, id, order, size, v);
     hand_ends(found, start, end)

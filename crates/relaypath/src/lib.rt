@@ -6,7 +6,7 @@ pub mod handed;
 pub mod listing;
 
 ghost use Rattle.graph.specs.Validation.{Validates};
-ghost use Rattle.tables.specs.Tables.{six};
+ghost use Rattle.tables.specs.Tables.{lent, left};
 ghost use Rattle.hld.specs.Build.{Builds};
 
 // Judges the graph of offsets and targets, seen from root: 0 for a tree, else the code of the first test that is not passed. Work needs
@@ -39,7 +39,7 @@ pub extern "C" fn relaypath_try_hld(
     size: &mut [u32],
     work: &mut [u32],
 ) -> u32
-    ensures { λ r. ⌜ Builds (now (offsets .entry)) (now (targets .entry)) root (six (now (parent .entry)) (now (depth .entry)) (now (head .entry)) (now (id .entry)) (now (order .entry)) (now (size .entry))) (now (work .entry)) (six (now (parent .exit)) (now (depth .exit)) (now (head .exit)) (now (id .exit)) (now (order .exit)) (now (size .exit))) (now (work .exit)) r ⌝ }
+    ensures { λ r. ⌜ Builds (now (offsets .entry)) (now (targets .entry)) root (lent parent depth head id order size) (now (work .entry)) (left parent depth head id order size) (now (work .exit)) r ⌝ }
 {
     hld::build::try_hld(
         offsets,

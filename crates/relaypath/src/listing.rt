@@ -1,7 +1,7 @@
 // The ranges of paths and rule parts under their C names.
 use crate::handed::hand;
 use crate::handed::hand_count;
-ghost use Rattle.tables.specs.Tables.{six};
+ghost use Rattle.tables.specs.Tables.{lent};
 ghost use Rattle.ranges.specs.Calls.{rangesOf, rangeRoom};
 ghost use Rattle.ranges.specs.declared.kinds.Kind.the-variants.{Vertices, Edges, Both};
 ghost use Rattle.relaypath.specs.Handed.{Handed};
@@ -21,7 +21,7 @@ pub extern "C" fn relaypath_vertex_path_ranges(
     ranges: &mut [u32],
     count: &mut usize,
 ) -> u32
-    ensures { λ code. ⌜ HandedList (rangesOf Vertices (six (now (parent .entry)) (now (depth .entry)) (now (head .entry)) (now (id .entry)) (now (order .entry)) (now (size .entry))) u v) (now (ranges .entry)) (now (ranges .exit)) (now (count .entry)) (now (count .exit)) code ⌝ }
+    ensures { λ code. ⌜ HandedList (rangesOf Vertices (lent parent depth head id order size) u v) (now (ranges .entry)) (now (ranges .exit)) (now (count .entry)) (now (count .exit)) code ⌝ }
 {
     let found = ranges::lists::vertex_path_ranges(
         parent,
@@ -51,7 +51,7 @@ pub extern "C" fn relaypath_edge_path_ranges(
     ranges: &mut [u32],
     count: &mut usize,
 ) -> u32
-    ensures { λ code. ⌜ HandedList (rangesOf Edges (six (now (parent .entry)) (now (depth .entry)) (now (head .entry)) (now (id .entry)) (now (order .entry)) (now (size .entry))) u v) (now (ranges .entry)) (now (ranges .exit)) (now (count .entry)) (now (count .exit)) code ⌝ }
+    ensures { λ code. ⌜ HandedList (rangesOf Edges (lent parent depth head id order size) u v) (now (ranges .entry)) (now (ranges .exit)) (now (count .entry)) (now (count .exit)) code ⌝ }
 {
     let found = ranges::lists::edge_path_ranges(parent, depth, head, id, order, size, u, v, ranges);
     hand_count(found, count)
@@ -71,7 +71,7 @@ pub extern "C" fn relaypath_vertex_edge_path_ranges(
     ranges: &mut [u32],
     count: &mut usize,
 ) -> u32
-    ensures { λ code. ⌜ HandedList (rangesOf Both (six (now (parent .entry)) (now (depth .entry)) (now (head .entry)) (now (id .entry)) (now (order .entry)) (now (size .entry))) u v) (now (ranges .entry)) (now (ranges .exit)) (now (count .entry)) (now (count .exit)) code ⌝ }
+    ensures { λ code. ⌜ HandedList (rangesOf Both (lent parent depth head id order size) u v) (now (ranges .entry)) (now (ranges .exit)) (now (count .entry)) (now (count .exit)) code ⌝ }
 {
     let found = ranges::lists::vertex_edge_path_ranges(
         parent,

@@ -7,7 +7,7 @@ use passes::TOP;
 use passes::UP;
 ghost use Prim.Native.Nat.{_<_};
 ghost use mathlib.Core.Path.{_≡_};
-ghost use Rattle.tables.specs.Tables.{six};
+ghost use Rattle.tables.specs.Tables.{lent, left, sixOf};
 ghost use Rattle.scatter.specs.Scatter.{Parented, parentAt, scattered, ScatterAsks, Filled};
 
 // The parent of the vertex at position j, NO_PARENT at the first.
@@ -34,8 +34,8 @@ fn scatter_one(
     size: &mut [u32],
     work: &[u32],
 )
-    requires { ⌜ (j < n) × ScatterAsks n (now work) (six (now parent) (now depth) (now head) (now id) (now order) (now size)) ⌝ }
-    ensures { λ r. ⌜ six (now (parent .exit)) (now (depth .exit)) (now (head .exit)) (now (id .exit)) (now (order .exit)) (now (size .exit)) ≡ scattered n (now (work .entry)) j (six (now (parent .entry)) (now (depth .entry)) (now (head .entry)) (now (id .entry)) (now (order .entry)) (now (size .entry))) ⌝ }
+    requires { ⌜ (j < n) × ScatterAsks n (now work) (sixOf parent depth head id order size) ⌝ }
+    ensures { λ r. ⌜ left parent depth head id order size ≡ scattered n (now (work .entry)) j (lent parent depth head id order size) ⌝ }
 {
     let v = work[j] as usize;
     let top = work[TOP * n + j] as usize;
@@ -59,8 +59,8 @@ pub fn scatter(
     size: &mut [u32],
     work: &[u32],
 )
-    requires { ⌜ ScatterAsks n (now work) (six (now parent) (now depth) (now head) (now id) (now order) (now size)) ⌝ }
-    ensures { λ r. ⌜ Filled n (now (work .entry)) n (six (now (parent .exit)) (now (depth .exit)) (now (head .exit)) (now (id .exit)) (now (order .exit)) (now (size .exit))) ⌝ }
+    requires { ⌜ ScatterAsks n (now work) (sixOf parent depth head id order size) ⌝ }
+    ensures { λ r. ⌜ Filled n (now (work .entry)) n (left parent depth head id order size) ⌝ }
 {
     let mut j: usize = 0;
     while j < n {

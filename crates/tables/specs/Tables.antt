@@ -3,6 +3,8 @@ use Prim.Native.Nat.{ℕ}
 use mathlib.Core.Path.{_≡_}
 use mathlib.Core.List.{List}
 use lib.ListN.{length}
+use denote.Ref.{RefT, now}
+use denote.Triple.Both.{Both}
 use Rattle.sums.specs.Sum.{at}
 use Rattle.paths.specs.Walk.{Stands}
 use Rattle.paths.specs.Rooted.{Spans}
@@ -45,3 +47,18 @@ TablesOf n A root t = NumberingOf n A root t (kidsByRuleOne A t)
 
 abbrev pub six : (parent depth head id order size : List ℕ) → Six
 six parent depth head id order size = record { parent = parent; depth = depth; head = head; id = id; order = order; size = size }
+
+-- In contracts: the six tables that a call is lent, as they were when it began; what it left in them; and, in what a function asks, as they are.
+
+abbrev pub lent : {A B C D E F : Type 0}
+    → Both (RefT (List ℕ)) A → Both (RefT (List ℕ)) B → Both (RefT (List ℕ)) C → Both (RefT (List ℕ)) D → Both (RefT (List ℕ)) E → Both (RefT (List ℕ)) F → Six
+lent parent depth head id order size =
+    six (now (parent .entry)) (now (depth .entry)) (now (head .entry)) (now (id .entry)) (now (order .entry)) (now (size .entry))
+
+abbrev pub left : {A B C D E F : Type 0}
+    → Both A (RefT (List ℕ)) → Both B (RefT (List ℕ)) → Both C (RefT (List ℕ)) → Both D (RefT (List ℕ)) → Both E (RefT (List ℕ)) → Both F (RefT (List ℕ)) → Six
+left parent depth head id order size =
+    six (now (parent .exit)) (now (depth .exit)) (now (head .exit)) (now (id .exit)) (now (order .exit)) (now (size .exit))
+
+abbrev pub sixOf : (parent depth head id order size : RefT (List ℕ)) → Six
+sixOf parent depth head id order size = six (now parent) (now depth) (now head) (now id) (now order) (now size)

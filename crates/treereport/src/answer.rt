@@ -12,7 +12,7 @@ use ranges::lists::vertex_path_ranges;
 use treefile::lines::put_answer;
 use treefile::lines::put_list;
 ghost use mathlib.Core.Path.{_≡_};
-ghost use Rattle.tables.specs.Tables.{six};
+ghost use Rattle.tables.specs.Tables.{lent, sixOf};
 ghost use Rattle.ranges.specs.Calls.{rangesOf};
 ghost use Rattle.ranges.specs.Inner.{ListedAs};
 ghost use Rattle.treefile.specs.Report.{listText, answerText};
@@ -35,7 +35,7 @@ fn number_answer(
     b: usize,
     c: usize,
 ) -> Answer
-    ensures { λ r. ⌜ r ≡ numberOf (six (now (parent .entry)) (now (depth .entry)) (now (head .entry)) (now (id .entry)) (now (order .entry)) (now (size .entry))) (query kind a b c) ⌝ }
+    ensures { λ r. ⌜ r ≡ numberOf (lent parent depth head id order size) (query kind a b c) ⌝ }
 {
     match kind {
         1 => distance(parent, depth, head, id, order, size, a, b),
@@ -59,7 +59,7 @@ fn path_answer(
     b: usize,
     flat: &mut [u32],
 ) -> Listed
-    ensures { λ r. ⌜ ListedAs (rangesOf (kindOf kind) (six (now (parent .entry)) (now (depth .entry)) (now (head .entry)) (now (id .entry)) (now (order .entry)) (now (size .entry))) a b) (now (flat .entry)) (now (flat .exit)) r ⌝ }
+    ensures { λ r. ⌜ ListedAs (rangesOf (kindOf kind) (lent parent depth head id order size) a b) (now (flat .entry)) (now (flat .exit)) r ⌝ }
 {
     match kind {
         6 => vertex_path_ranges(parent, depth, head, id, order, size, a, b, flat),
@@ -82,8 +82,8 @@ fn put_path(
     out: &mut [u8],
     at: usize,
 ) -> usize
-    requires { ⌜ PathAsks (six (now parent) (now depth) (now head) (now id) (now order) (now size)) (kindOf kind) a b at (now out) ⌝ }
-    ensures { λ r. ⌜ Puts (listText (rangesOf (kindOf kind) (six (now (parent .entry)) (now (depth .entry)) (now (head .entry)) (now (id .entry)) (now (order .entry)) (now (size .entry))) a b)) at (now (out .entry)) (now (out .exit)) r ⌝ }
+    requires { ⌜ PathAsks (sixOf parent depth head id order size) (kindOf kind) a b at (now out) ⌝ }
+    ensures { λ r. ⌜ Puts (listText (rangesOf (kindOf kind) (lent parent depth head id order size) a b)) at (now (out .entry)) (now (out .exit)) r ⌝ }
 {
     let mut flat = [0u32; RANGE_NUMBERS];
     let listed = path_answer(parent, depth, head, id, order, size, kind, a, b, &mut flat);
@@ -105,8 +105,8 @@ pub(crate) fn answer_query(
     out: &mut [u8],
     at: usize,
 ) -> usize
-    requires { ⌜ AnswerAsks (six (now parent) (now depth) (now head) (now id) (now order) (now size)) (query kind a b c) at (now out) ⌝ }
-    ensures { λ r. ⌜ Puts (answerText (six (now (parent .entry)) (now (depth .entry)) (now (head .entry)) (now (id .entry)) (now (order .entry)) (now (size .entry))) (query kind a b c)) at (now (out .entry)) (now (out .exit)) r ⌝ }
+    requires { ⌜ AnswerAsks (sixOf parent depth head id order size) (query kind a b c) at (now out) ⌝ }
+    ensures { λ r. ⌜ Puts (answerText (lent parent depth head id order size) (query kind a b c)) at (now (out .entry)) (now (out .exit)) r ⌝ }
 {
     match kind {
         1..=5 => {

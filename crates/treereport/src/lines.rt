@@ -3,7 +3,7 @@ use crate::answer::answer_query;
 use treefile::lines::put_query_head;
 use treefile::numbers::put_byte;
 ghost use Prim.Native.Nat.{_+_, _*_};
-ghost use Rattle.tables.specs.Tables.{six};
+ghost use Rattle.tables.specs.Tables.{lent, sixOf};
 ghost use Rattle.treefile.specs.Report.{queryLine, queryLines};
 ghost use Rattle.treefile.specs.Sections.{queryAt};
 ghost use Rattle.treefile.specs.Writing.{Puts};
@@ -29,8 +29,8 @@ fn put_query(
     out: &mut [u8],
     at: usize,
 ) -> usize
-    requires { ⌜ LineAsks (six (now parent) (now depth) (now head) (now id) (now order) (now size)) place (query kind a b c) at (now out) ⌝ }
-    ensures { λ r. ⌜ Puts (queryLine (six (now (parent .entry)) (now (depth .entry)) (now (head .entry)) (now (id .entry)) (now (order .entry)) (now (size .entry))) place (query kind a b c)) at (now (out .entry)) (now (out .exit)) r ⌝ }
+    requires { ⌜ LineAsks (sixOf parent depth head id order size) place (query kind a b c) at (now out) ⌝ }
+    ensures { λ r. ⌜ Puts (queryLine (lent parent depth head id order size) place (query kind a b c)) at (now (out .entry)) (now (out .exit)) r ⌝ }
 {
     let first = put_query_head(out, at, place, kind);
     let last = answer_query(
@@ -63,8 +63,8 @@ fn put_query_at(
     out: &mut [u8],
     at: usize,
 ) -> usize
-    requires { ⌜ PlaceAsks (six (now parent) (now depth) (now head) (now id) (now order) (now size)) (now queries) i at (now out) ⌝ }
-    ensures { λ r. ⌜ Puts (queryLine (six (now (parent .entry)) (now (depth .entry)) (now (head .entry)) (now (id .entry)) (now (order .entry)) (now (size .entry))) (1 + i) (queryAt (now (queries .entry)) (4 * i))) at (now (out .entry)) (now (out .exit)) r ⌝ }
+    requires { ⌜ PlaceAsks (sixOf parent depth head id order size) (now queries) i at (now out) ⌝ }
+    ensures { λ r. ⌜ Puts (queryLine (lent parent depth head id order size) (1 + i) (queryAt (now (queries .entry)) (4 * i))) at (now (out .entry)) (now (out .exit)) r ⌝ }
 {
     let kind = queries[4 * i] as usize;
     let a = queries[4 * i + 1] as usize;
@@ -100,8 +100,8 @@ pub(crate) fn put_queries(
     out: &mut [u8],
     at: usize,
 ) -> usize
-    requires { ⌜ LinesAsk (six (now parent) (now depth) (now head) (now id) (now order) (now size)) (now queries) count at (now out) ⌝ }
-    ensures { λ r. ⌜ Puts (queryLines (six (now (parent .entry)) (now (depth .entry)) (now (head .entry)) (now (id .entry)) (now (order .entry)) (now (size .entry))) 1 (queriesOf count (now (queries .entry)))) at (now (out .entry)) (now (out .exit)) r ⌝ }
+    requires { ⌜ LinesAsk (sixOf parent depth head id order size) (now queries) count at (now out) ⌝ }
+    ensures { λ r. ⌜ Puts (queryLines (lent parent depth head id order size) 1 (queriesOf count (now (queries .entry)))) at (now (out .entry)) (now (out .exit)) r ⌝ }
 {
     let mut next = at;
     let mut i: usize = 0;

@@ -10,7 +10,7 @@ use treefile::lines::put_tree_line;
 use treefile::parse::parse;
 ghost use mathlib.Core.Path.{_≡_};
 ghost use Rattle.graph.specs.Lent.{vertices as verticesOf};
-ghost use Rattle.tables.specs.Tables.{six};
+ghost use Rattle.tables.specs.Tables.{lent, left, sixOf};
 ghost use Rattle.treefile.specs.File.{file};
 ghost use Rattle.treereport.specs.Reports.{Written, Reports};
 ghost use Rattle.treereport.specs.Filing.{fileOf, TreeAsks, Told, FileAsks};
@@ -46,8 +46,8 @@ fn report_tree(
     count: usize,
     out: &mut [u8],
 ) -> usize
-    requires { ⌜ TreeAsks (now offsets) (now targets) (six (now parent) (now depth) (now head) (now id) (now order) (now size)) (now queries) count (now out) ⌝ }
-    ensures { λ r. ⌜ Told (fileOf (now (offsets .entry)) (now (targets .entry)) root (now (queries .entry)) count) (six (now (parent .entry)) (now (depth .entry)) (now (head .entry)) (now (id .entry)) (now (order .entry)) (now (size .entry))) (six (now (parent .exit)) (now (depth .exit)) (now (head .exit)) (now (id .exit)) (now (order .exit)) (now (size .exit))) (now (out .entry)) (now (out .exit)) r ⌝ }
+    requires { ⌜ TreeAsks (now offsets) (now targets) (sixOf parent depth head id order size) (now queries) count (now out) ⌝ }
+    ensures { λ r. ⌜ Told (fileOf (now (offsets .entry)) (now (targets .entry)) root (now (queries .entry)) count) (lent parent depth head id order size) (left parent depth head id order size) (now (out .entry)) (now (out .exit)) r ⌝ }
 {
     let mut work = [0u32; 8 * MAX_VERTICES + MAX_TARGETS];
     let code = try_hld(
