@@ -42,13 +42,19 @@ shared-slice-read-number : tie.Need-shared-slice-read-number
 shared-slice-read-number c = search needs
 
 parent-at-requires : tie.Need-parent-at-requires
-parent-at-requires c κs = parented _ _ _ (c .before .before .before .before .before .before .before .before .before .before .pre .1) _ (c .before .before .before .before .before .before .before .before .before .before .pre .0)
+parent-at-requires c κs =
+    let at-start = c .before .before .before .before .before .before .before .before .before .before in
+    parented _ _ _ (at-start .pre .1) _ (at-start .pre .0)
 
 mul-parent : tie.Need-mul-parent
-mul-parent c = omega (arith, c .before .before .before .before .before .before .before .before .before .before .before .pre .1 .vertices _ (c .before .before .before .before .before .before .before .before .before .before .before .pre .0), c .before .before .before .before .before .before .before .before .before .before .before .pre .1 .room, c .before .before .before .before .before .before .before .before .before .before .before .good)
+mul-parent c =
+    let at-start = c .before .before .before .before .before .before .before .before .before .before .before in
+    omega (arith, at-start .pre .1 .vertices _ (at-start .pre .0), at-start .pre .1 .room, at-start .good)
 
 slice-write-parent : tie.Need-slice-write-parent
-slice-write-parent c = omega (arith, c .before .before .before .before .before .before .before .before .before .before .before .pre .1 .vertices _ (c .before .before .before .before .before .before .before .before .before .before .before .pre .0), c .before .before .before .before .before .before .before .before .before .before .before .pre .1 .long .parent)
+slice-write-parent c =
+    let at-start = c .before .before .before .before .before .before .before .before .before .before .before in
+    omega (arith, at-start .pre .1 .vertices _ (at-start .pre .0), at-start .pre .1 .long .parent)
 
 mul-depth : tie.Need-mul-depth
 mul-depth c = search needs
@@ -63,28 +69,44 @@ shared-slice-read-depth : tie.Need-shared-slice-read-depth
 shared-slice-read-depth c = search needs
 
 mul-depth-3 : tie.Need-mul-depth-3
-mul-depth-3 c = omega (arith, c .before .before .before .before .before .before .before .before .before .before .before .before .pre .1 .vertices _ (c .before .before .before .before .before .before .before .before .before .before .before .before .pre .0), c .before .before .before .before .before .before .before .before .before .before .before .before .pre .1 .room, c .before .before .before .before .before .before .before .before .before .before .before .before .good)
+mul-depth-3 c =
+    let at-start = c .before .before .before .before .before .before .before .before .before .before .before .before in
+    omega (arith, at-start .pre .1 .vertices _ (at-start .pre .0), at-start .pre .1 .room, at-start .good)
 
 slice-write-depth : tie.Need-slice-write-depth
-slice-write-depth c = omega (arith, c .before .before .before .before .before .before .before .before .before .before .before .before .pre .1 .vertices _ (c .before .before .before .before .before .before .before .before .before .before .before .before .pre .0), c .before .before .before .before .before .before .before .before .before .before .before .before .pre .1 .long .depth)
+slice-write-depth c =
+    let at-start = c .before .before .before .before .before .before .before .before .before .before .before .before in
+    omega (arith, at-start .pre .1 .vertices _ (at-start .pre .0), at-start .pre .1 .long .depth)
 
 mul-head : tie.Need-mul-head
-mul-head c = omega (arith, c .before .before .before .before .before .before .before .before .before .before .before .before .pre .1 .tops _ (c .before .before .before .before .before .before .before .before .before .before .before .before .pre .0), c .before .before .before .before .before .before .before .before .before .before .before .before .pre .1 .room, c .before .before .before .before .before .before .before .before .before .before .before .before .good)
+mul-head c =
+    let at-start = c .before .before .before .before .before .before .before .before .before .before .before .before in
+    omega (arith, at-start .pre .1 .tops _ (at-start .pre .0), at-start .pre .1 .room, at-start .good)
 
 shared-slice-read-head : tie.Need-shared-slice-read-head
-shared-slice-read-head c = omega (arith, c .before .before .before .before .before .before .before .before .before .before .before .before .before .pre .1 .tops _ (c .before .before .before .before .before .before .before .before .before .before .before .before .before .pre .0), c .before .before .before .before .before .before .before .before .before .before .before .before .before .pre .1 .room, c .before .before .before .before .before .before .before .before .before .before .before .before .before .good)
+shared-slice-read-head c =
+    let at-start = c .before .before .before .before .before .before .before .before .before .before .before .before .before in
+    omega (arith, at-start .pre .1 .tops _ (at-start .pre .0), at-start .pre .1 .room, at-start .good)
 
 mul-head-2 : tie.Need-mul-head-2
-mul-head-2 c = omega (arith, c .before .before .before .before .before .before .before .before .before .before .before .before .before .pre .1 .vertices _ (c .before .before .before .before .before .before .before .before .before .before .before .before .before .pre .0), c .before .before .before .before .before .before .before .before .before .before .before .before .before .pre .1 .room, c .before .before .before .before .before .before .before .before .before .before .before .before .before .good)
+mul-head-2 c =
+    let at-start = c .before .before .before .before .before .before .before .before .before .before .before .before .before in
+    omega (arith, at-start .pre .1 .vertices _ (at-start .pre .0), at-start .pre .1 .room, at-start .good)
 
 slice-write-head : tie.Need-slice-write-head
-slice-write-head c = omega (arith, c .before .before .before .before .before .before .before .before .before .before .before .before .before .pre .1 .vertices _ (c .before .before .before .before .before .before .before .before .before .before .before .before .before .pre .0), c .before .before .before .before .before .before .before .before .before .before .before .before .before .pre .1 .long .head)
+slice-write-head c =
+    let at-start = c .before .before .before .before .before .before .before .before .before .before .before .before .before in
+    omega (arith, at-start .pre .1 .vertices _ (at-start .pre .0), at-start .pre .1 .long .head)
 
 mul-id : tie.Need-mul-id
-mul-id c = omega (arith, c .before .before .before .before .before .before .before .before .before .before .before .before .before .pre .1 .vertices _ (c .before .before .before .before .before .before .before .before .before .before .before .before .before .pre .0), c .before .before .before .before .before .before .before .before .before .before .before .before .before .pre .1 .room, c .before .before .before .before .before .before .before .before .before .before .before .before .before .good)
+mul-id c =
+    let at-start = c .before .before .before .before .before .before .before .before .before .before .before .before .before in
+    omega (arith, at-start .pre .1 .vertices _ (at-start .pre .0), at-start .pre .1 .room, at-start .good)
 
 slice-write-id : tie.Need-slice-write-id
-slice-write-id c = omega (arith, c .before .before .before .before .before .before .before .before .before .before .before .before .before .pre .1 .vertices _ (c .before .before .before .before .before .before .before .before .before .before .before .before .before .pre .0), c .before .before .before .before .before .before .before .before .before .before .before .before .before .pre .1 .long .id)
+slice-write-id c =
+    let at-start = c .before .before .before .before .before .before .before .before .before .before .before .before .before in
+    omega (arith, at-start .pre .1 .vertices _ (at-start .pre .0), at-start .pre .1 .long .id)
 
 mul-order : tie.Need-mul-order
 mul-order c = search needs
@@ -96,10 +118,14 @@ cast-order : tie.Need-cast-order
 cast-order c = fits-widen tt (c .before .before .before .before .before .shared-slice-known3 .given _)
 
 mul-order-2 : tie.Need-mul-order-2
-mul-order-2 c = omega (arith, c .before .before .before .before .before .before .before .before .before .before .before .before .before .before .pre .1 .numbers _ (c .before .before .before .before .before .before .before .before .before .before .before .before .before .before .pre .0), c .before .before .before .before .before .before .before .before .before .before .before .before .before .before .pre .1 .room, c .before .before .before .before .before .before .before .before .before .before .before .before .before .before .good)
+mul-order-2 c =
+    let at-start = c .before .before .before .before .before .before .before .before .before .before .before .before .before .before in
+    omega (arith, at-start .pre .1 .numbers _ (at-start .pre .0), at-start .pre .1 .room, at-start .good)
 
 slice-write-order : tie.Need-slice-write-order
-slice-write-order c = omega (arith, c .before .before .before .before .before .before .before .before .before .before .before .before .before .before .pre .1 .numbers _ (c .before .before .before .before .before .before .before .before .before .before .before .before .before .before .pre .0), c .before .before .before .before .before .before .before .before .before .before .before .before .before .before .pre .1 .long .order)
+slice-write-order c =
+    let at-start = c .before .before .before .before .before .before .before .before .before .before .before .before .before .before in
+    omega (arith, at-start .pre .1 .numbers _ (at-start .pre .0), at-start .pre .1 .long .order)
 
 mul-size : tie.Need-mul-size
 mul-size c = search needs
@@ -114,10 +140,14 @@ shared-slice-read-size : tie.Need-shared-slice-read-size
 shared-slice-read-size c = search needs
 
 mul-size-3 : tie.Need-mul-size-3
-mul-size-3 c = omega (arith, c .before .before .before .before .before .before .before .before .before .before .before .before .before .before .before .pre .1 .vertices _ (c .before .before .before .before .before .before .before .before .before .before .before .before .before .before .before .pre .0), c .before .before .before .before .before .before .before .before .before .before .before .before .before .before .before .pre .1 .room, c .before .before .before .before .before .before .before .before .before .before .before .before .before .before .before .good)
+mul-size-3 c =
+    let at-start = c .before .before .before .before .before .before .before .before .before .before .before .before .before .before .before in
+    omega (arith, at-start .pre .1 .vertices _ (at-start .pre .0), at-start .pre .1 .room, at-start .good)
 
 slice-write-size : tie.Need-slice-write-size
-slice-write-size c = omega (arith, c .before .before .before .before .before .before .before .before .before .before .before .before .before .before .before .pre .1 .vertices _ (c .before .before .before .before .before .before .before .before .before .before .before .before .before .before .before .pre .0), c .before .before .before .before .before .before .before .before .before .before .before .before .before .before .before .pre .1 .long .size)
+slice-write-size c =
+    let at-start = c .before .before .before .before .before .before .before .before .before .before .before .before .before .before .before in
+    omega (arith, at-start .pre .1 .vertices _ (at-start .pre .0), at-start .pre .1 .long .size)
 
 same-length : tie.Need-same-length
 same-length c = search needs

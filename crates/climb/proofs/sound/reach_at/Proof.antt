@@ -20,7 +20,9 @@ nowhere-requires : tie.Need-nowhere-requires
 nowhere-requires c κs = search needs
 
 returns : tie.Need-returns
-returns c = reach-beyond (c .before .before .before .before .before .before .before .pre) (c .nowhere .ensures) (c .before .if1 .taken)
+returns c =
+    let at-start = c .before .before .before .before .before .before .before in
+    reach-beyond (at-start .pre) (c .nowhere .ensures) (c .before .if1 .taken)
 
 mul-top : tie.Need-mul-top
 mul-top c = search needs
@@ -53,16 +55,24 @@ nowhere-requires-2 : tie.Need-nowhere-requires-2
 nowhere-requires-2 c κs = search needs
 
 returns-2 : tie.Need-returns-2
-returns-2 c = reach-high (c .before .before .before .before .before .before .before .before .before .before .before .pre) (c .nowhere2 .ensures) (c .before .if2 .taken)
+returns-2 c =
+    let at-start = c .before .before .before .before .before .before .before .before .before .before .before in
+    reach-high (at-start .pre) (c .nowhere2 .ensures) (c .before .if2 .taken)
 
 add-t12 : tie.Need-add-t12
-add-t12 c = omega (arith, c .before .before .before .before .before .before .before .before .before .before .pre .id-below, c .before .before .before .before .before .before .before .before .before .before .good, c .before .before .before .shared-slice-known6 .given (getD (c .before .before .before .before .before .before .before .before .before .before .args .head .now) (c .before .before .before .before .before .before .before .before .before .before .args .x) 0), c .before .before .shared-slice-known7 .given (getD (c .before .before .before .before .before .before .before .before .before .before .args .head .now) (c .before .before .before .before .before .before .before .before .before .before .args .x) 0))
+add-t12 c =
+    let at-start = c .before .before .before .before .before .before .before .before .before .before in
+    omega (arith, at-start .pre .id-below, at-start .good, c .before .before .before .shared-slice-known6 .given (getD (at-start .args .head .now) (at-start .args .x) 0), c .before .before .shared-slice-known7 .given (getD (at-start .args .head .now) (at-start .args .x) 0))
 
 add-t19 : tie.Need-add-t19
-add-t19 c = omega (arith, c .before .before .before .before .before .before .before .before .before .before .pre .depth-below, c .before .before .before .before .before .before .before .before .before .before .good, c .before .before .shared-slice-known7 .given (getD (c .before .before .before .before .before .before .before .before .before .before .args .head .now) (c .before .before .before .before .before .before .before .before .before .before .args .x) 0), c .before .before .before .shared-slice-known6 .given (getD (c .before .before .before .before .before .before .before .before .before .before .args .head .now) (c .before .before .before .before .before .before .before .before .before .before .args .x) 0))
+add-t19 c =
+    let at-start = c .before .before .before .before .before .before .before .before .before .before in
+    omega (arith, at-start .pre .depth-below, at-start .good, c .before .before .shared-slice-known7 .given (getD (at-start .args .head .now) (at-start .args .x) 0), c .before .before .before .shared-slice-known6 .given (getD (at-start .args .head .now) (at-start .args .x) 0))
 
 returns-3 : tie.Need-returns-3
-returns-3 c = reach-here (c .before .before .before .before .before .before .before .before .before .before .pre) (c .before .before .before .before .if1 .left) (c .if2 .left)
+returns-3 c =
+    let at-start = c .before .before .before .before .before .before .before .before .before .before in
+    reach-here (at-start .pre) (c .before .before .before .before .if1 .left) (c .if2 .left)
 
 pub reach-at-spec : {M : Type 1} → statement M
 reach-at-spec =

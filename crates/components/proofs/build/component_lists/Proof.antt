@@ -20,7 +20,9 @@ mul-room : tie.Need-mul-room
 mul-room c = search needs
 
 add-room : tie.Need-add-room
-add-room c = omega (arith, room-fits (c .before .before .before .before .before .before .before .before .before .args .offsets .now) (c .before .before .before .before .before .before .before .before .before .args .targets .now) (passed (c .before .sized .ensures) (c .if1 .left)))
+add-room c =
+    let at-start = c .before .before .before .before .before .before .before .before .before in
+    omega (arith, room-fits (at-start .args .offsets .now) (at-start .args .targets .now) (passed (c .before .sized .ensures) (c .if1 .left)))
 
 returns-2 : tie.Need-returns-2
 returns-2 c = no-work _ _ _ _ _ _ _ (passed (c .before .before .sized .ensures) (c .before .if1 .left)) (c .if2 .taken)
@@ -50,10 +52,14 @@ returns-4 : tie.Need-returns-4
 returns-4 c = not-tree _ _ _ _ _ _ _ (passed (c .before .before .before .before .before .before .before .before .before .before .before .before .sized .ensures) (c .before .before .before .before .before .before .before .before .before .before .before .if1 .left)) (c .before .before .before .before .before .before .before .before .before .before .if2 .left) (c .before .before .before .before .before .before .before .before .before .if3 .left) (c .before .before .before .before .before .before .before .judge .ensures) (c .before .before .before .before .if4 .taken) (c .before .before .zero2 .ensures)
 
 find-levels-requires : tie.Need-find-levels-requires
-find-levels-requires c κs = tree-asks _ _ (c .before .before .before .before .before .before .before .before .before .before .before .before .before .before .before .before .before .args .vertices .now) (c .before .before .before .before .before .before .before .before .before .before .before .before .before .before .before .before .before .args .distances .now) (c .before .before .before .before .before .before .before .before .before .before .before .before .before .before .before .before .before .args .branches .now) (c .before .before .before .before .before .before .before .before .before .before .before .before .before .before .before .before .before .args .starts .now) _ (passed (c .before .before .before .before .before .before .before .before .before .sized .ensures) (c .before .before .before .before .before .before .before .before .if1 .left)) (c .before .before .before .before .before .before .before .if2 .left) (c .before .before .before .before .before .before .if3 .left) (c .before .before .before .before .judge .ensures) (c .before .if4 .left)
+find-levels-requires c κs =
+    let at-start = c .before .before .before .before .before .before .before .before .before .before .before .before .before .before .before .before .before in
+    tree-asks _ _ (at-start .args .vertices .now) (at-start .args .distances .now) (at-start .args .branches .now) (at-start .args .starts .now) _ (passed (c .before .before .before .before .before .before .before .before .before .sized .ensures) (c .before .before .before .before .before .before .before .before .if1 .left)) (c .before .before .before .before .before .before .before .if2 .left) (c .before .before .before .before .before .before .if3 .left) (c .before .before .before .before .judge .ensures) (c .before .if4 .left)
 
 total-room-requires : tie.Need-total-room-requires
-total-room-requires c κs = total-asks _ _ (c .before .before .before .before .before .before .before .before .before .before .before .before .before .before .before .before .before .before .before .before .before .args .vertices .now) (c .before .before .before .before .before .before .before .before .before .before .before .before .before .before .before .before .before .before .before .before .before .args .distances .now) (c .before .before .before .before .before .before .before .before .before .before .before .before .before .before .before .before .before .before .before .before .before .args .branches .now) (c .before .before .before .before .before .before .before .before .before .before .before .before .before .before .before .before .before .before .before .before .before .args .starts .now) _ (passed (c .before .before .before .before .before .before .before .before .before .before .before .before .before .sized .ensures) (c .before .before .before .before .before .before .before .before .before .before .before .before .if1 .left)) (c .before .before .before .before .before .before .before .before .before .before .before .if2 .left) (c .before .before .before .before .before .before .before .before .before .before .if3 .left) (c .before .before .before .before .before .before .before .before .judge .ensures) (c .before .before .before .before .before .if4 .left) (c .before .before .before .find-levels .ensures)
+total-room-requires c κs =
+    let at-start = c .before .before .before .before .before .before .before .before .before .before .before .before .before .before .before .before .before .before .before .before .before in
+    total-asks _ _ (at-start .args .vertices .now) (at-start .args .distances .now) (at-start .args .branches .now) (at-start .args .starts .now) _ (passed (c .before .before .before .before .before .before .before .before .before .before .before .before .before .sized .ensures) (c .before .before .before .before .before .before .before .before .before .before .before .before .if1 .left)) (c .before .before .before .before .before .before .before .before .before .before .before .if2 .left) (c .before .before .before .before .before .before .before .before .before .before .if3 .left) (c .before .before .before .before .before .before .before .before .judge .ensures) (c .before .before .before .before .before .if4 .left) (c .before .before .before .find-levels .ensures)
 
 fitting-requires : tie.Need-fitting-requires
 fitting-requires c κs = search needs

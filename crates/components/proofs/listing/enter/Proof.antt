@@ -33,34 +33,50 @@ slice-read-least : tie.Need-slice-read-least
 slice-read-least c = search needs
 
 returns : tie.Need-returns
-returns c = left (leads-low (levelIn (c .before .before .before .before .before .before .before .args .n) (c .before .before .before .before .before .before .before .args .work .now)) (c .before .before .before .before .before .before .before .args .c) (c .before .before .before .before .before .before .before .args .back) (c .before .before .before .before .before .before .before .args .y) (c .if1 .taken)) refl refl refl refl refl
+returns c =
+    let at-start = c .before .before .before .before .before .before .before in
+    left (leads-low (levelIn (at-start .args .n) (at-start .args .work .now)) (at-start .args .c) (at-start .args .back) (at-start .args .y) (c .if1 .taken)) refl refl refl refl refl
 
 returns-2 : tie.Need-returns-2
-returns-2 c = left (leads-back (levelIn (c .before .before .before .before .before .before .before .before .args .n) (c .before .before .before .before .before .before .before .before .args .work .now)) (c .before .before .before .before .before .before .before .before .args .c) (c .before .before .before .before .before .before .before .before .args .back) (c .before .before .before .before .before .before .before .before .args .y) (c .before .if1 .left) (c .if2 .taken)) refl refl refl refl refl
+returns-2 c =
+    let at-start = c .before .before .before .before .before .before .before .before in
+    left (leads-back (levelIn (at-start .args .n) (at-start .args .work .now)) (at-start .args .c) (at-start .args .back) (at-start .args .y) (c .before .if1 .left) (c .if2 .taken)) refl refl refl refl refl
 
 cast-vertices : tie.Need-cast-vertices
 cast-vertices c = search needs
 
 mul-vertices : tie.Need-mul-vertices
-mul-vertices c = omega (arith, c .before .before .before .before .before .before .before .before .pre .fits (leads-on (levelIn (c .before .before .before .before .before .before .before .before .args .n) (c .before .before .before .before .before .before .before .before .args .work .now)) (c .before .before .before .before .before .before .before .before .args .c) (c .before .before .before .before .before .before .before .before .args .back) (c .before .before .before .before .before .before .before .before .args .y) (c .before .if1 .left) (c .if2 .left)))
+mul-vertices c =
+    let at-start = c .before .before .before .before .before .before .before .before in
+    omega (arith, at-start .pre .fits (leads-on (levelIn (at-start .args .n) (at-start .args .work .now)) (at-start .args .c) (at-start .args .back) (at-start .args .y) (c .before .if1 .left) (c .if2 .left)))
 
 slice-write-vertices : tie.Need-slice-write-vertices
-slice-write-vertices c = omega (arith, c .before .before .before .before .before .before .before .before .pre .fits (leads-on (levelIn (c .before .before .before .before .before .before .before .before .args .n) (c .before .before .before .before .before .before .before .before .args .work .now)) (c .before .before .before .before .before .before .before .before .args .c) (c .before .before .before .before .before .before .before .before .args .back) (c .before .before .before .before .before .before .before .before .args .y) (c .before .if1 .left) (c .if2 .left)))
+slice-write-vertices c =
+    let at-start = c .before .before .before .before .before .before .before .before in
+    omega (arith, at-start .pre .fits (leads-on (levelIn (at-start .args .n) (at-start .args .work .now)) (at-start .args .c) (at-start .args .back) (at-start .args .y) (c .before .if1 .left) (c .if2 .left)))
 
 mul-distances : tie.Need-mul-distances
-mul-distances c = omega (arith, c .before .before .before .before .before .before .before .before .pre .fits (leads-on (levelIn (c .before .before .before .before .before .before .before .before .args .n) (c .before .before .before .before .before .before .before .before .args .work .now)) (c .before .before .before .before .before .before .before .before .args .c) (c .before .before .before .before .before .before .before .before .args .back) (c .before .before .before .before .before .before .before .before .args .y) (c .before .if1 .left) (c .if2 .left)))
+mul-distances c =
+    let at-start = c .before .before .before .before .before .before .before .before in
+    omega (arith, at-start .pre .fits (leads-on (levelIn (at-start .args .n) (at-start .args .work .now)) (at-start .args .c) (at-start .args .back) (at-start .args .y) (c .before .if1 .left) (c .if2 .left)))
 
 slice-write-distances : tie.Need-slice-write-distances
-slice-write-distances c = omega (arith, c .before .before .before .before .before .before .before .before .pre .fits (leads-on (levelIn (c .before .before .before .before .before .before .before .before .args .n) (c .before .before .before .before .before .before .before .before .args .work .now)) (c .before .before .before .before .before .before .before .before .args .c) (c .before .before .before .before .before .before .before .before .args .back) (c .before .before .before .before .before .before .before .before .args .y) (c .before .if1 .left) (c .if2 .left)))
+slice-write-distances c =
+    let at-start = c .before .before .before .before .before .before .before .before in
+    omega (arith, at-start .pre .fits (leads-on (levelIn (at-start .args .n) (at-start .args .work .now)) (at-start .args .c) (at-start .args .back) (at-start .args .y) (c .before .if1 .left) (c .if2 .left)))
 
 branch-beyond-requires : tie.Need-branch-beyond-requires
 branch-beyond-requires c κs = search needs
 
 mul-branches : tie.Need-mul-branches
-mul-branches c = omega (arith, c .before .before .before .before .before .before .before .before .before .pre .fits (leads-on (levelIn (c .before .before .before .before .before .before .before .before .before .args .n) (c .before .before .before .before .before .before .before .before .before .args .work .now)) (c .before .before .before .before .before .before .before .before .before .args .c) (c .before .before .before .before .before .before .before .before .before .args .back) (c .before .before .before .before .before .before .before .before .before .args .y) (c .before .before .if1 .left) (c .before .if2 .left)))
+mul-branches c =
+    let at-start = c .before .before .before .before .before .before .before .before .before in
+    omega (arith, at-start .pre .fits (leads-on (levelIn (at-start .args .n) (at-start .args .work .now)) (at-start .args .c) (at-start .args .back) (at-start .args .y) (c .before .before .if1 .left) (c .before .if2 .left)))
 
 slice-write-branches : tie.Need-slice-write-branches
-slice-write-branches c = omega (arith, c .before .before .before .before .before .before .before .before .before .pre .fits (leads-on (levelIn (c .before .before .before .before .before .before .before .before .before .args .n) (c .before .before .before .before .before .before .before .before .before .args .work .now)) (c .before .before .before .before .before .before .before .before .before .args .c) (c .before .before .before .before .before .before .before .before .before .args .back) (c .before .before .before .before .before .before .before .before .before .args .y) (c .before .before .if1 .left) (c .before .if2 .left)))
+slice-write-branches c =
+    let at-start = c .before .before .before .before .before .before .before .before .before in
+    omega (arith, at-start .pre .fits (leads-on (levelIn (at-start .args .n) (at-start .args .work .now)) (at-start .args .c) (at-start .args .back) (at-start .args .y) (c .before .before .if1 .left) (c .before .if2 .left)))
 
 cast-work : tie.Need-cast-work
 cast-work c = search needs
@@ -78,7 +94,9 @@ slice-write-work : tie.Need-slice-write-work
 slice-write-work c = search needs
 
 add-result : tie.Need-add-result
-add-result c = omega (arith, c .before .before .before .before .before .before .before .before .before .pre .fits (leads-on (levelIn (c .before .before .before .before .before .before .before .before .before .args .n) (c .before .before .before .before .before .before .before .before .before .args .work .now)) (c .before .before .before .before .before .before .before .before .before .args .c) (c .before .before .before .before .before .before .before .before .before .args .back) (c .before .before .before .before .before .before .before .before .before .args .y) (c .before .before .if1 .left) (c .before .if2 .left)))
+add-result c =
+    let at-start = c .before .before .before .before .before .before .before .before .before in
+    omega (arith, at-start .pre .fits (leads-on (levelIn (at-start .args .n) (at-start .args .work .now)) (at-start .args .c) (at-start .args .back) (at-start .args .y) (c .before .before .if1 .left) (c .before .if2 .left)))
 
 same-length : tie.Need-same-length
 same-length c = search needs
@@ -93,7 +111,9 @@ same-length-4 : tie.Need-same-length-4
 same-length-4 c = search needs
 
 returns-3 : tie.Need-returns-3
-returns-3 c = new (leads-on (levelIn (c .before .before .before .before .before .before .before .before .before .args .n) (c .before .before .before .before .before .before .before .before .before .args .work .now)) (c .before .before .before .before .before .before .before .before .before .args .c) (c .before .before .before .before .before .before .before .before .before .args .back) (c .before .before .before .before .before .before .before .before .before .args .y) (c .before .before .if1 .left) (c .before .if2 .left)) refl refl (ap (λ (b : ℕ). set (c .before .before .before .before .before .before .before .before .before .args .branches .now) (c .before .before .before .before .before .before .before .before .before .args .count) b) (c .branch-beyond .ensures)) refl refl
+returns-3 c =
+    let at-start = c .before .before .before .before .before .before .before .before .before in
+    new (leads-on (levelIn (at-start .args .n) (at-start .args .work .now)) (at-start .args .c) (at-start .args .back) (at-start .args .y) (c .before .before .if1 .left) (c .before .if2 .left)) refl refl (ap (λ (b : ℕ). set (at-start .args .branches .now) (at-start .args .count) b) (c .branch-beyond .ensures)) refl refl
 
 pub enter-spec : {M : Type 1} → statement M
 enter-spec =

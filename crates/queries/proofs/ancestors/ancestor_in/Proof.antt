@@ -8,13 +8,19 @@ use Rattle.climb.proofs.Reaching.{reached-off, reached-seat}
 use Rattle.queries.proofs.Rising.{rise-reached, rise-off}
 
 reach-requires : tie.Need-reach-requires
-reach-requires c κs = record { even = c .before .before .before .before .before .pre .even; vertex = c .before .before .before .before .before .pre .vertex }
+reach-requires c κs =
+    let at-start = c .before .before .before .before .before in
+    record { even = at-start .pre .even; vertex = at-start .pre .vertex }
 
 returns : tie.Need-returns
-returns c = λ s. rise-off _ _ _ _ (reached-off (c .before .before .before .before .before .before .before .before .args .parent .now) (c .before .before .before .before .before .before .before .before .args .depth .now) (c .before .before .before .before .before .before .before .before .args .head .now) (c .before .before .before .before .before .before .before .before .args .id .now) (c .before .before .reach .ensures) (not-true _ (c .if1 .taken)) _ s)
+returns c =
+    let at-start = c .before .before .before .before .before .before .before .before in
+    λ s. rise-off _ _ _ _ (reached-off (at-start .args .parent .now) (at-start .args .depth .now) (at-start .args .head .now) (at-start .args .id .now) (c .before .before .reach .ensures) (not-true _ (c .if1 .taken)) _ s)
 
 ancestor-from-requires : tie.Need-ancestor-from-requires
-ancestor-from-requires c κs = record { even = c .before .before .before .before .before .before .before .before .pre .even; order = c .before .before .before .before .before .before .before .before .pre .order; seat = reached-seat (c .before .before .before .before .before .before .before .before .args .parent .now) (c .before .before .before .before .before .before .before .before .args .depth .now) (c .before .before .before .before .before .before .before .before .args .head .now) (c .before .before .before .before .before .before .before .before .args .id .now) (c .before .before .reach .ensures) (not-false _ (c .if1 .left)) }
+ancestor-from-requires c κs =
+    let at-start = c .before .before .before .before .before .before .before .before in
+    record { even = at-start .pre .even; order = at-start .pre .order; seat = reached-seat (at-start .args .parent .now) (at-start .args .depth .now) (at-start .args .head .now) (at-start .args .id .now) (c .before .before .reach .ensures) (not-false _ (c .if1 .left)) }
 
 enum-known-found : tie.Need-enum-known-found
 enum-known-found c = search needs
@@ -23,10 +29,14 @@ enum-told : tie.Need-enum-told
 enum-told c = search needs
 
 returns-2 : tie.Need-returns-2
-returns-2 c = λ s. c .before .before .ancestor-from .ensures s ∙ rise-reached (c .before .before .before .before .before .before .before .before .before .before .before .args .parent .now) (c .before .before .before .before .before .before .before .before .before .before .before .args .depth .now) (c .before .before .before .before .before .before .before .before .before .before .before .args .head .now) (c .before .before .before .before .before .before .before .before .before .before .before .args .id .now) (c .before .before .before .before .before .before .before .before .before .before .before .args .order .now) _ (c .before .before .before .before .before .reach .ensures) (not-false _ (c .before .before .before .if1 .left)) s
+returns-2 c =
+    let at-start = c .before .before .before .before .before .before .before .before .before .before .before in
+    λ s. c .before .before .ancestor-from .ensures s ∙ rise-reached (at-start .args .parent .now) (at-start .args .depth .now) (at-start .args .head .now) (at-start .args .id .now) (at-start .args .order .now) _ (c .before .before .before .before .before .reach .ensures) (not-false _ (c .before .before .before .if1 .left)) s
 
 returns-3 : tie.Need-returns-3
-returns-3 c = λ s. sym (c .before .found .given .1) ∙ (c .before .before .before .ancestor-from .ensures s ∙ rise-reached (c .before .before .before .before .before .before .before .before .before .before .before .before .args .parent .now) (c .before .before .before .before .before .before .before .before .before .before .before .before .args .depth .now) (c .before .before .before .before .before .before .before .before .before .before .before .before .args .head .now) (c .before .before .before .before .before .before .before .before .before .before .before .before .args .id .now) (c .before .before .before .before .before .before .before .before .before .before .before .before .args .order .now) _ (c .before .before .before .before .before .before .reach .ensures) (not-false _ (c .before .before .before .before .if1 .left)) s)
+returns-3 c =
+    let at-start = c .before .before .before .before .before .before .before .before .before .before .before .before in
+    λ s. sym (c .before .found .given .1) ∙ (c .before .before .before .ancestor-from .ensures s ∙ rise-reached (at-start .args .parent .now) (at-start .args .depth .now) (at-start .args .head .now) (at-start .args .id .now) (at-start .args .order .now) _ (c .before .before .before .before .before .before .reach .ensures) (not-false _ (c .before .before .before .before .if1 .left)) s)
 
 pub ancestor-in-spec : {M : Type 1} → statement M
 ancestor-in-spec =

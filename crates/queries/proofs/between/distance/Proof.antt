@@ -34,7 +34,9 @@ enum-known-refusal : tie.Need-enum-known-refusal
 enum-known-refusal c = search needs
 
 returns : tie.Need-returns
-returns c = verdict-refused (lent (c .before .before .before .before .before .before .before .before .before .before .before)) (c .before .before .before .before .before .before .before .before .before .before .before .args .u ∷ c .before .before .before .before .before .before .before .before .before .before .before .args .v ∷ []) Refused _ (sym (c .before .before .before .asked .ensures) ∙ c .before .refusal .given .1)
+returns c =
+    let at-start = c .before .before .before .before .before .before .before .before .before .before .before in
+    verdict-refused (lent (c .before .before .before .before .before .before .before .before .before .before .before)) (at-start .args .u ∷ at-start .args .v ∷ []) Refused _ (sym (c .before .before .before .asked .ensures) ∙ c .before .refusal .given .1)
 
 enum-told : tie.Need-enum-told
 enum-told c = search needs
@@ -43,16 +45,22 @@ reach-requires : tie.Need-reach-requires
 reach-requires c κs = record { even = lengths (passed c) .even; vertex = first-below (passed c) }
 
 returns-2 : tie.Need-returns-2
-returns-2 c = answered (passed (c .before .before .before)) Refused (distance-lost _ _ _ _ (sym (climb-off-u _ _ _ _ (reached-off (c .before .before .before .before .before .before .before .before .before .before .before .before .before .args .parent .now) (c .before .before .before .before .before .before .before .before .before .before .before .before .before .args .depth .now) (c .before .before .before .before .before .before .before .before .before .before .before .before .before .args .head .now) (c .before .before .before .before .before .before .before .before .before .before .before .before .before .args .id .now) (c .before .before .reach .ensures) (not-true _ (c .if1 .taken)) _ _))))
+returns-2 c =
+    let at-start = c .before .before .before .before .before .before .before .before .before .before .before .before .before in
+    answered (passed (c .before .before .before)) Refused (distance-lost _ _ _ _ (sym (climb-off-u _ _ _ _ (reached-off (at-start .args .parent .now) (at-start .args .depth .now) (at-start .args .head .now) (at-start .args .id .now) (c .before .before .reach .ensures) (not-true _ (c .if1 .taken)) _ _))))
 
 reach-requires-2 : tie.Need-reach-requires-2
 reach-requires-2 c κs = record { even = lengths (passed (c .before .before .before)) .even; vertex = first-below (others (passed (c .before .before .before))) }
 
 returns-3 : tie.Need-returns-3
-returns-3 c = answered (passed (c .before .before .before .before .before .before)) Refused (distance-lost _ _ _ _ (sym (climb-none-v _ _ _ _ (reached-off (c .before .before .before .before .before .before .before .before .before .before .before .before .before .before .before .before .args .parent .now) (c .before .before .before .before .before .before .before .before .before .before .before .before .before .before .before .before .args .depth .now) (c .before .before .before .before .before .before .before .before .before .before .before .before .before .before .before .before .args .head .now) (c .before .before .before .before .before .before .before .before .before .before .before .before .before .before .before .before .args .id .now) (c .before .before .reach2 .ensures) (not-true _ (c .if2 .taken)) _ _))))
+returns-3 c =
+    let at-start = c .before .before .before .before .before .before .before .before .before .before .before .before .before .before .before .before in
+    answered (passed (c .before .before .before .before .before .before)) Refused (distance-lost _ _ _ _ (sym (climb-none-v _ _ _ _ (reached-off (at-start .args .parent .now) (at-start .args .depth .now) (at-start .args .head .now) (at-start .args .id .now) (c .before .before .reach2 .ensures) (not-true _ (c .if2 .taken)) _ _))))
 
 climb-to-lca-requires : tie.Need-climb-to-lca-requires
-climb-to-lca-requires c κs = climbs-from (c .before .before .before .before .before .before .before .before .before .before .before .before .before .before .before .before .args .parent .now) (c .before .before .before .before .before .before .before .before .before .before .before .before .before .before .before .before .args .depth .now) (c .before .before .before .before .before .before .before .before .before .before .before .before .before .before .before .before .args .head .now) (c .before .before .before .before .before .before .before .before .before .before .before .before .before .before .before .before .args .id .now) (c .before .before .before .before .before .reach .ensures) (not-false _ (c .before .before .before .if1 .left)) (c .before .before .reach2 .ensures) (not-false _ (c .if2 .left)) (lengths (passed (c .before .before .before .before .before .before)) .even) (few-parent (lengths (passed (c .before .before .before .before .before .before)) .few))
+climb-to-lca-requires c κs =
+    let at-start = c .before .before .before .before .before .before .before .before .before .before .before .before .before .before .before .before in
+    climbs-from (at-start .args .parent .now) (at-start .args .depth .now) (at-start .args .head .now) (at-start .args .id .now) (c .before .before .before .before .before .reach .ensures) (not-false _ (c .before .before .before .if1 .left)) (c .before .before .reach2 .ensures) (not-false _ (c .if2 .left)) (lengths (passed (c .before .before .before .before .before .before)) .even) (few-parent (lengths (passed (c .before .before .before .before .before .before)) .few))
 
 enum-known-c : tie.Need-enum-known-c
 enum-known-c c = search needs
@@ -61,28 +69,53 @@ enum-told-2 : tie.Need-enum-told-2
 enum-told-2 c = search needs
 
 returns-4 : tie.Need-returns-4
-returns-4 c = answered (passed (c .before .before .before .before .before .before .before .before .before)) Refused (distance-lost _ _ _ _ (climbed-off (c .before .before .before .before .before .before .before .before .before .before .before .before .before .before .before .before .before .before .before .args .parent .now) (c .before .before .before .before .before .before .before .before .before .before .before .before .before .before .before .before .before .before .before .args .depth .now) (c .before .before .before .before .before .before .before .before .before .before .before .before .before .before .before .before .before .before .before .args .head .now) (c .before .before .before .before .before .before .before .before .before .before .before .before .before .before .before .before .before .before .before .args .id .now) (climbed-there (c .before .before .before .before .before .before .before .before .before .before .before .before .before .before .before .before .before .before .before .args .parent .now) (c .before .before .before .before .before .before .before .before .before .before .before .before .before .before .before .before .before .before .before .args .depth .now) (c .before .before .before .before .before .before .before .before .before .before .before .before .before .before .before .before .before .before .before .args .head .now) (c .before .before .before .before .before .before .before .before .before .before .before .before .before .before .before .before .before .before .before .args .id .now) (c .before .before .before .before .before .before .before .before .reach .ensures) (not-false _ (c .before .before .before .before .before .before .if1 .left)) (c .before .before .before .before .before .reach2 .ensures) (not-false _ (c .before .before .before .if2 .left)) (c .before .before .climb-to-lca .ensures)) (c .enum-told2 .given .1) _ _))
+returns-4 c =
+    let at-start = c .before .before .before .before .before .before .before .before .before .before .before .before .before .before .before .before .before .before .before in
+    answered (passed (c .before .before .before .before .before .before .before .before .before)) Refused (distance-lost _ _ _ _ (climbed-off (at-start .args .parent .now) (at-start .args .depth .now) (at-start .args .head .now) (at-start .args .id .now) (climbed-there (at-start .args .parent .now) (at-start .args .depth .now) (at-start .args .head .now) (at-start .args .id .now) (c .before .before .before .before .before .before .before .before .reach .ensures) (not-false _ (c .before .before .before .before .before .before .if1 .left)) (c .before .before .before .before .before .reach2 .ensures) (not-false _ (c .before .before .before .if2 .left)) (c .before .before .climb-to-lca .ensures)) (c .enum-told2 .given .1) _ _))
 
 hangs-requires : tie.Need-hangs-requires
 hangs-requires c κs = record { depth = lengths (passed (c .before .before .before .before .before .before .before .before .before .before)) .even .depth; id = lengths (passed (c .before .before .before .before .before .before .before .before .before .before)) .even .id }
 
 returns-5 : tie.Need-returns-5
-returns-5 c = answered (passed (c .before .before .before .before .before .before .before .before .before .before .before .before)) Refused (distance-lost _ _ _ _ (climbed-unhung (c .before .before .before .before .before .before .before .before .before .before .before .before .before .before .before .before .before .before .before .before .before .before .args .parent .now) (c .before .before .before .before .before .before .before .before .before .before .before .before .before .before .before .before .before .before .before .before .before .before .args .depth .now) (c .before .before .before .before .before .before .before .before .before .before .before .before .before .before .before .before .before .before .before .before .before .before .args .head .now) (c .before .before .before .before .before .before .before .before .before .before .before .before .before .before .before .before .before .before .before .before .before .before .args .id .now) (climbed-there (c .before .before .before .before .before .before .before .before .before .before .before .before .before .before .before .before .before .before .before .before .before .before .args .parent .now) (c .before .before .before .before .before .before .before .before .before .before .before .before .before .before .before .before .before .before .before .before .before .before .args .depth .now) (c .before .before .before .before .before .before .before .before .before .before .before .before .before .before .before .before .before .before .before .before .before .before .args .head .now) (c .before .before .before .before .before .before .before .before .before .before .before .before .before .before .before .before .before .before .before .before .before .before .args .id .now) (c .before .before .before .before .before .before .before .before .before .before .before .reach .ensures) (not-false _ (c .before .before .before .before .before .before .before .before .before .if1 .left)) (c .before .before .before .before .before .before .before .before .reach2 .ensures) (not-false _ (c .before .before .before .before .before .before .if2 .left)) (c .before .before .before .before .before .climb-to-lca .ensures)) (c .before .before .before .c .given .1) (sym (c .before .hangs .ensures) ∙ not-true _ (c .if3 .taken)) _ _))
+returns-5 c =
+    let at-start = c .before .before .before .before .before .before .before .before .before .before .before .before .before .before .before .before .before .before .before .before .before .before in
+    answered (passed (c .before .before .before .before .before .before .before .before .before .before .before .before)) Refused (distance-lost _ _ _ _ (climbed-unhung (at-start .args .parent .now) (at-start .args .depth .now) (at-start .args .head .now) (at-start .args .id .now) (climbed-there (at-start .args .parent .now) (at-start .args .depth .now) (at-start .args .head .now) (at-start .args .id .now) (c .before .before .before .before .before .before .before .before .before .before .before .reach .ensures) (not-false _ (c .before .before .before .before .before .before .before .before .before .if1 .left)) (c .before .before .before .before .before .before .before .before .reach2 .ensures) (not-false _ (c .before .before .before .before .before .before .if2 .left)) (c .before .before .before .before .before .climb-to-lca .ensures)) (c .before .before .before .c .given .1) (sym (c .before .hangs .ensures) ∙ not-true _ (c .if3 .taken)) _ _))
 
 ancestor-requires : tie.Need-ancestor-requires
 ancestor-requires c κs = search needs
 
 add-t23 : tie.Need-add-t23
-add-t23 c = omega (arith, c .before .before .before .before .before .before .before .before .before .before .before .before .before .before .before .before .before .before .before .before .before .before .before .before .before .good, seat-facts (c .before .before .before .before .before .before .before .before .before .before .before .before .before .before .before .before .before .before .before .before .before .before .before .before .before .args .parent .now) (c .before .before .before .before .before .before .before .before .before .before .before .before .before .before .before .before .before .before .before .before .before .before .before .before .before .args .depth .now) (c .before .before .before .before .before .before .before .before .before .before .before .before .before .before .before .before .before .before .before .before .before .before .before .before .before .args .head .now) (c .before .before .before .before .before .before .before .before .before .before .before .before .before .before .before .before .before .before .before .before .before .before .before .before .before .args .id .now) _ (reached-seat (c .before .before .before .before .before .before .before .before .before .before .before .before .before .before .before .before .before .before .before .before .before .before .before .before .before .args .parent .now) (c .before .before .before .before .before .before .before .before .before .before .before .before .before .before .before .before .before .before .before .before .before .before .before .before .before .args .depth .now) (c .before .before .before .before .before .before .before .before .before .before .before .before .before .before .before .before .before .before .before .before .before .before .before .before .before .args .head .now) (c .before .before .before .before .before .before .before .before .before .before .before .before .before .before .before .before .before .before .before .before .before .before .before .before .before .args .id .now) (c .before .before .before .before .before .before .before .before .before .before .before .before .before .before .reach .ensures) (not-false _ (c .before .before .before .before .before .before .before .before .before .before .before .before .if1 .left))), seat-facts (c .before .before .before .before .before .before .before .before .before .before .before .before .before .before .before .before .before .before .before .before .before .before .before .before .before .args .parent .now) (c .before .before .before .before .before .before .before .before .before .before .before .before .before .before .before .before .before .before .before .before .before .before .before .before .before .args .depth .now) (c .before .before .before .before .before .before .before .before .before .before .before .before .before .before .before .before .before .before .before .before .before .before .before .before .before .args .head .now) (c .before .before .before .before .before .before .before .before .before .before .before .before .before .before .before .before .before .before .before .before .before .before .before .before .before .args .id .now) _ (reached-seat (c .before .before .before .before .before .before .before .before .before .before .before .before .before .before .before .before .before .before .before .before .before .before .before .before .before .args .parent .now) (c .before .before .before .before .before .before .before .before .before .before .before .before .before .before .before .before .before .before .before .before .before .before .before .before .before .args .depth .now) (c .before .before .before .before .before .before .before .before .before .before .before .before .before .before .before .before .before .before .before .before .before .before .before .before .before .args .head .now) (c .before .before .before .before .before .before .before .before .before .before .before .before .before .before .before .before .before .before .before .before .before .before .before .before .before .args .id .now) (c .before .before .before .before .before .before .before .before .before .before .before .reach2 .ensures) (not-false _ (c .before .before .before .before .before .before .before .before .before .if2 .left))))
+add-t23 c =
+    let at-start = c .before .before .before .before .before .before .before .before .before .before .before .before .before .before .before .before .before .before .before .before .before .before .before .before .before in
+    omega (arith, at-start .good, seat-facts (at-start .args .parent .now) (at-start .args .depth .now) (at-start .args .head .now) (at-start .args .id .now) _ (reached-seat (at-start .args .parent .now) (at-start .args .depth .now) (at-start .args .head .now) (at-start .args .id .now) (c .before .before .before .before .before .before .before .before .before .before .before .before .before .before .reach .ensures) (not-false _ (c .before .before .before .before .before .before .before .before .before .before .before .before .if1 .left))), seat-facts (at-start .args .parent .now) (at-start .args .depth .now) (at-start .args .head .now) (at-start .args .id .now) _ (reached-seat (at-start .args .parent .now) (at-start .args .depth .now) (at-start .args .head .now) (at-start .args .id .now) (c .before .before .before .before .before .before .before .before .before .before .before .reach2 .ensures) (not-false _ (c .before .before .before .before .before .before .before .before .before .if2 .left))))
 
 mul-t26 : tie.Need-mul-t26
-mul-t26 c = omega (arith, c .before .before .before .before .before .before .before .before .before .before .before .before .before .before .before .before .before .before .before .before .before .before .before .before .before .before .good, seat-facts (c .before .before .before .before .before .before .before .before .before .before .before .before .before .before .before .before .before .before .before .before .before .before .before .before .before .before .args .parent .now) (c .before .before .before .before .before .before .before .before .before .before .before .before .before .before .before .before .before .before .before .before .before .before .before .before .before .before .args .depth .now) (c .before .before .before .before .before .before .before .before .before .before .before .before .before .before .before .before .before .before .before .before .before .before .before .before .before .before .args .head .now) (c .before .before .before .before .before .before .before .before .before .before .before .before .before .before .before .before .before .before .before .before .before .before .before .before .before .before .args .id .now) _ (reached-seat (c .before .before .before .before .before .before .before .before .before .before .before .before .before .before .before .before .before .before .before .before .before .before .before .before .before .before .args .parent .now) (c .before .before .before .before .before .before .before .before .before .before .before .before .before .before .before .before .before .before .before .before .before .before .before .before .before .before .args .depth .now) (c .before .before .before .before .before .before .before .before .before .before .before .before .before .before .before .before .before .before .before .before .before .before .before .before .before .before .args .head .now) (c .before .before .before .before .before .before .before .before .before .before .before .before .before .before .before .before .before .before .before .before .before .before .before .before .before .before .args .id .now) (c .before .before .before .before .before .before .before .before .before .before .before .before .before .before .before .reach .ensures) (not-false _ (c .before .before .before .before .before .before .before .before .before .before .before .before .before .if1 .left))), p-low (c .before .before .before .before .before .before .before .before .before .before .before .before .before .before .before .before .before .before .before .before .before .before .before .before .before .before .args .parent .now) (c .before .before .before .before .before .before .before .before .before .before .before .before .before .before .before .before .before .before .before .before .before .before .before .before .before .before .args .depth .now) (c .before .before .before .before .before .before .before .before .before .before .before .before .before .before .before .before .before .before .before .before .before .before .before .before .before .before .args .head .now) (c .before .before .before .before .before .before .before .before .before .before .before .before .before .before .before .before .before .before .before .before .before .before .before .before .before .before .args .id .now) (climbs-from (c .before .before .before .before .before .before .before .before .before .before .before .before .before .before .before .before .before .before .before .before .before .before .before .before .before .before .args .parent .now) (c .before .before .before .before .before .before .before .before .before .before .before .before .before .before .before .before .before .before .before .before .before .before .before .before .before .before .args .depth .now) (c .before .before .before .before .before .before .before .before .before .before .before .before .before .before .before .before .before .before .before .before .before .before .before .before .before .before .args .head .now) (c .before .before .before .before .before .before .before .before .before .before .before .before .before .before .before .before .before .before .before .before .before .before .before .before .before .before .args .id .now) (c .before .before .before .before .before .before .before .before .before .before .before .before .before .before .before .reach .ensures) (not-false _ (c .before .before .before .before .before .before .before .before .before .before .before .before .before .if1 .left)) (c .before .before .before .before .before .before .before .before .before .before .before .before .reach2 .ensures) (not-false _ (c .before .before .before .before .before .before .before .before .before .before .if2 .left)) (lengths (passed (c .before .before .before .before .before .before .before .before .before .before .before .before .before .before .before .before)) .even) (few-parent (lengths (passed (c .before .before .before .before .before .before .before .before .before .before .before .before .before .before .before .before)) .few))) (c .before .before .before .before .before .before .before .before .before .climb-to-lca .ensures) (c .before .before .before .before .before .before .before .c .given .1) (c .before .before .before .ancestor .ensures))
+mul-t26 c =
+    let at-start = c .before .before .before .before .before .before .before .before .before .before .before .before .before .before .before .before .before .before .before .before .before .before .before .before .before .before in
+    let at-reach = c .before .before .before .before .before .before .before .before .before .before .before .before .before .before .before .reach in
+    let at-if1 = c .before .before .before .before .before .before .before .before .before .before .before .before .before .if1 in
+    omega (arith, at-start .good, seat-facts (at-start .args .parent .now) (at-start .args .depth .now) (at-start .args .head .now) (at-start .args .id .now) _ (reached-seat (at-start .args .parent .now) (at-start .args .depth .now) (at-start .args .head .now) (at-start .args .id .now) (at-reach .ensures) (not-false _ (at-if1 .left))), p-low (at-start .args .parent .now) (at-start .args .depth .now) (at-start .args .head .now) (at-start .args .id .now) (climbs-from (at-start .args .parent .now) (at-start .args .depth .now) (at-start .args .head .now) (at-start .args .id .now) (at-reach .ensures) (not-false _ (at-if1 .left)) (c .before .before .before .before .before .before .before .before .before .before .before .before .reach2 .ensures) (not-false _ (c .before .before .before .before .before .before .before .before .before .before .if2 .left)) (lengths (passed (c .before .before .before .before .before .before .before .before .before .before .before .before .before .before .before .before)) .even) (few-parent (lengths (passed (c .before .before .before .before .before .before .before .before .before .before .before .before .before .before .before .before)) .few))) (c .before .before .before .before .before .before .before .before .before .climb-to-lca .ensures) (c .before .before .before .before .before .before .before .c .given .1) (c .before .before .before .ancestor .ensures))
 
 sub-t27 : tie.Need-sub-t27
-sub-t27 c = omega (arith, p-low (c .before .before .before .before .before .before .before .before .before .before .before .before .before .before .before .before .before .before .before .before .before .before .before .before .before .before .args .parent .now) (c .before .before .before .before .before .before .before .before .before .before .before .before .before .before .before .before .before .before .before .before .before .before .before .before .before .before .args .depth .now) (c .before .before .before .before .before .before .before .before .before .before .before .before .before .before .before .before .before .before .before .before .before .before .before .before .before .before .args .head .now) (c .before .before .before .before .before .before .before .before .before .before .before .before .before .before .before .before .before .before .before .before .before .before .before .before .before .before .args .id .now) (climbs-from (c .before .before .before .before .before .before .before .before .before .before .before .before .before .before .before .before .before .before .before .before .before .before .before .before .before .before .args .parent .now) (c .before .before .before .before .before .before .before .before .before .before .before .before .before .before .before .before .before .before .before .before .before .before .before .before .before .before .args .depth .now) (c .before .before .before .before .before .before .before .before .before .before .before .before .before .before .before .before .before .before .before .before .before .before .before .before .before .before .args .head .now) (c .before .before .before .before .before .before .before .before .before .before .before .before .before .before .before .before .before .before .before .before .before .before .before .before .before .before .args .id .now) (c .before .before .before .before .before .before .before .before .before .before .before .before .before .before .before .reach .ensures) (not-false _ (c .before .before .before .before .before .before .before .before .before .before .before .before .before .if1 .left)) (c .before .before .before .before .before .before .before .before .before .before .before .before .reach2 .ensures) (not-false _ (c .before .before .before .before .before .before .before .before .before .before .if2 .left)) (lengths (passed (c .before .before .before .before .before .before .before .before .before .before .before .before .before .before .before .before)) .even) (few-parent (lengths (passed (c .before .before .before .before .before .before .before .before .before .before .before .before .before .before .before .before)) .few))) (c .before .before .before .before .before .before .before .before .before .climb-to-lca .ensures) (c .before .before .before .before .before .before .before .c .given .1) (c .before .before .before .ancestor .ensures), q-low (c .before .before .before .before .before .before .before .before .before .before .before .before .before .before .before .before .before .before .before .before .before .before .before .before .before .before .args .parent .now) (c .before .before .before .before .before .before .before .before .before .before .before .before .before .before .before .before .before .before .before .before .before .before .before .before .before .before .args .depth .now) (c .before .before .before .before .before .before .before .before .before .before .before .before .before .before .before .before .before .before .before .before .before .before .before .before .before .before .args .head .now) (c .before .before .before .before .before .before .before .before .before .before .before .before .before .before .before .before .before .before .before .before .before .before .before .before .before .before .args .id .now) (climbs-from (c .before .before .before .before .before .before .before .before .before .before .before .before .before .before .before .before .before .before .before .before .before .before .before .before .before .before .args .parent .now) (c .before .before .before .before .before .before .before .before .before .before .before .before .before .before .before .before .before .before .before .before .before .before .before .before .before .before .args .depth .now) (c .before .before .before .before .before .before .before .before .before .before .before .before .before .before .before .before .before .before .before .before .before .before .before .before .before .before .args .head .now) (c .before .before .before .before .before .before .before .before .before .before .before .before .before .before .before .before .before .before .before .before .before .before .before .before .before .before .args .id .now) (c .before .before .before .before .before .before .before .before .before .before .before .before .before .before .before .reach .ensures) (not-false _ (c .before .before .before .before .before .before .before .before .before .before .before .before .before .if1 .left)) (c .before .before .before .before .before .before .before .before .before .before .before .before .reach2 .ensures) (not-false _ (c .before .before .before .before .before .before .before .before .before .before .if2 .left)) (lengths (passed (c .before .before .before .before .before .before .before .before .before .before .before .before .before .before .before .before)) .even) (few-parent (lengths (passed (c .before .before .before .before .before .before .before .before .before .before .before .before .before .before .before .before)) .few))) (c .before .before .before .before .before .before .before .before .before .climb-to-lca .ensures) (c .before .before .before .before .before .before .before .c .given .1) (c .before .before .before .ancestor .ensures))
+sub-t27 c =
+    let at-start = c .before .before .before .before .before .before .before .before .before .before .before .before .before .before .before .before .before .before .before .before .before .before .before .before .before .before in
+    let at-reach = c .before .before .before .before .before .before .before .before .before .before .before .before .before .before .before .reach in
+    let at-if1 = c .before .before .before .before .before .before .before .before .before .before .before .before .before .if1 in
+    let at-reach2 = c .before .before .before .before .before .before .before .before .before .before .before .before .reach2 in
+    let at-if2 = c .before .before .before .before .before .before .before .before .before .before .if2 in
+    let at-climb-to-lca = c .before .before .before .before .before .before .before .before .before .climb-to-lca in
+    let at-c = c .before .before .before .before .before .before .before .c in
+    let at-ancestor = c .before .before .before .ancestor in
+    omega (arith, p-low (at-start .args .parent .now) (at-start .args .depth .now) (at-start .args .head .now) (at-start .args .id .now) (climbs-from (at-start .args .parent .now) (at-start .args .depth .now) (at-start .args .head .now) (at-start .args .id .now) (at-reach .ensures) (not-false _ (at-if1 .left)) (at-reach2 .ensures) (not-false _ (at-if2 .left)) (lengths (passed (c .before .before .before .before .before .before .before .before .before .before .before .before .before .before .before .before)) .even) (few-parent (lengths (passed (c .before .before .before .before .before .before .before .before .before .before .before .before .before .before .before .before)) .few))) (at-climb-to-lca .ensures) (at-c .given .1) (at-ancestor .ensures), q-low (at-start .args .parent .now) (at-start .args .depth .now) (at-start .args .head .now) (at-start .args .id .now) (climbs-from (at-start .args .parent .now) (at-start .args .depth .now) (at-start .args .head .now) (at-start .args .id .now) (at-reach .ensures) (not-false _ (at-if1 .left)) (at-reach2 .ensures) (not-false _ (at-if2 .left)) (lengths (passed (c .before .before .before .before .before .before .before .before .before .before .before .before .before .before .before .before)) .even) (few-parent (lengths (passed (c .before .before .before .before .before .before .before .before .before .before .before .before .before .before .before .before)) .few))) (at-climb-to-lca .ensures) (at-c .given .1) (at-ancestor .ensures))
 
 returns-6 : tie.Need-returns-6
-returns-6 c = answered (passed (c .before .before .before .before .before .before .before .before .before .before .before .before .before .before .before .before)) Refused (distance-met _ _ _ _ (reached-depth (c .before .before .before .before .before .before .before .before .before .before .before .before .before .before .before .before .before .before .before .before .before .before .before .before .before .before .args .parent .now) (c .before .before .before .before .before .before .before .before .before .before .before .before .before .before .before .before .before .before .before .before .before .before .before .before .before .before .args .depth .now) (c .before .before .before .before .before .before .before .before .before .before .before .before .before .before .before .before .before .before .before .before .before .before .before .before .before .before .args .head .now) (c .before .before .before .before .before .before .before .before .before .before .before .before .before .before .before .before .before .before .before .before .before .before .before .before .before .before .args .id .now) (c .before .before .before .before .before .before .before .before .before .before .before .before .before .before .before .reach .ensures) (not-false _ (c .before .before .before .before .before .before .before .before .before .before .before .before .before .if1 .left))) (reached-depth (c .before .before .before .before .before .before .before .before .before .before .before .before .before .before .before .before .before .before .before .before .before .before .before .before .before .before .args .parent .now) (c .before .before .before .before .before .before .before .before .before .before .before .before .before .before .before .before .before .before .before .before .before .before .before .before .before .before .args .depth .now) (c .before .before .before .before .before .before .before .before .before .before .before .before .before .before .before .before .before .before .before .before .before .before .before .before .before .before .args .head .now) (c .before .before .before .before .before .before .before .before .before .before .before .before .before .before .before .before .before .before .before .before .before .before .before .before .before .before .args .id .now) (c .before .before .before .before .before .before .before .before .before .before .before .before .reach2 .ensures) (not-false _ (c .before .before .before .before .before .before .before .before .before .before .if2 .left))) (climbed-on (c .before .before .before .before .before .before .before .before .before .before .before .before .before .before .before .before .before .before .before .before .before .before .before .before .before .before .args .parent .now) (c .before .before .before .before .before .before .before .before .before .before .before .before .before .before .before .before .before .before .before .before .before .before .before .before .before .before .args .depth .now) (c .before .before .before .before .before .before .before .before .before .before .before .before .before .before .before .before .before .before .before .before .before .before .before .before .before .before .args .head .now) (c .before .before .before .before .before .before .before .before .before .before .before .before .before .before .before .before .before .before .before .before .before .before .before .before .before .before .args .id .now) (climbed-there (c .before .before .before .before .before .before .before .before .before .before .before .before .before .before .before .before .before .before .before .before .before .before .before .before .before .before .args .parent .now) (c .before .before .before .before .before .before .before .before .before .before .before .before .before .before .before .before .before .before .before .before .before .before .before .before .before .before .args .depth .now) (c .before .before .before .before .before .before .before .before .before .before .before .before .before .before .before .before .before .before .before .before .before .before .before .before .before .before .args .head .now) (c .before .before .before .before .before .before .before .before .before .before .before .before .before .before .before .before .before .before .before .before .before .before .before .before .before .before .args .id .now) (c .before .before .before .before .before .before .before .before .before .before .before .before .before .before .before .reach .ensures) (not-false _ (c .before .before .before .before .before .before .before .before .before .before .before .before .before .if1 .left)) (c .before .before .before .before .before .before .before .before .before .before .before .before .reach2 .ensures) (not-false _ (c .before .before .before .before .before .before .before .before .before .before .if2 .left)) (c .before .before .before .before .before .before .before .before .before .climb-to-lca .ensures)) (c .before .before .before .before .before .before .before .c .given .1) (sym (c .before .before .before .before .before .hangs .ensures) ∙ not-false _ (c .before .before .before .before .if3 .left)) _ _) (c .before .before .before .ancestor .ensures))
+returns-6 c =
+    let at-start = c .before .before .before .before .before .before .before .before .before .before .before .before .before .before .before .before .before .before .before .before .before .before .before .before .before .before in
+    let at-reach = c .before .before .before .before .before .before .before .before .before .before .before .before .before .before .before .reach in
+    let at-if1 = c .before .before .before .before .before .before .before .before .before .before .before .before .before .if1 in
+    let at-reach2 = c .before .before .before .before .before .before .before .before .before .before .before .before .reach2 in
+    let at-if2 = c .before .before .before .before .before .before .before .before .before .before .if2 in
+    answered (passed (c .before .before .before .before .before .before .before .before .before .before .before .before .before .before .before .before)) Refused (distance-met _ _ _ _ (reached-depth (at-start .args .parent .now) (at-start .args .depth .now) (at-start .args .head .now) (at-start .args .id .now) (at-reach .ensures) (not-false _ (at-if1 .left))) (reached-depth (at-start .args .parent .now) (at-start .args .depth .now) (at-start .args .head .now) (at-start .args .id .now) (at-reach2 .ensures) (not-false _ (at-if2 .left))) (climbed-on (at-start .args .parent .now) (at-start .args .depth .now) (at-start .args .head .now) (at-start .args .id .now) (climbed-there (at-start .args .parent .now) (at-start .args .depth .now) (at-start .args .head .now) (at-start .args .id .now) (at-reach .ensures) (not-false _ (at-if1 .left)) (at-reach2 .ensures) (not-false _ (at-if2 .left)) (c .before .before .before .before .before .before .before .before .before .climb-to-lca .ensures)) (c .before .before .before .before .before .before .before .c .given .1) (sym (c .before .before .before .before .before .hangs .ensures) ∙ not-false _ (c .before .before .before .before .if3 .left)) _ _) (c .before .before .before .ancestor .ensures))
 
 pub distance-spec : {M : Type 1} → statement M
 distance-spec =

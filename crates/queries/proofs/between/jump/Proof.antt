@@ -33,7 +33,9 @@ enum-known-refusal : tie.Need-enum-known-refusal
 enum-known-refusal c = search needs
 
 returns : tie.Need-returns
-returns c = verdict-refused (lent (c .before .before .before .before .before .before .before .before .before .before .before)) (c .before .before .before .before .before .before .before .before .before .before .before .args .u ∷ c .before .before .before .before .before .before .before .before .before .before .before .args .v ∷ []) Refused _ (sym (c .before .before .before .asked .ensures) ∙ c .before .refusal .given .1)
+returns c =
+    let at-start = c .before .before .before .before .before .before .before .before .before .before .before in
+    verdict-refused (lent (c .before .before .before .before .before .before .before .before .before .before .before)) (at-start .args .u ∷ at-start .args .v ∷ []) Refused _ (sym (c .before .before .before .asked .ensures) ∙ c .before .refusal .given .1)
 
 enum-told : tie.Need-enum-told
 enum-told c = search needs
@@ -42,19 +44,27 @@ reach-requires : tie.Need-reach-requires
 reach-requires c κs = record { even = lengths (passed c) .even; vertex = first-below (passed c) }
 
 returns-2 : tie.Need-returns-2
-returns-2 c = answered (passed (c .before .before .before)) Refused (jump-lost _ _ _ _ _ (sym (climb-off-u _ _ _ _ (reached-off (c .before .before .before .before .before .before .before .before .before .before .before .before .before .args .parent .now) (c .before .before .before .before .before .before .before .before .before .before .before .before .before .args .depth .now) (c .before .before .before .before .before .before .before .before .before .before .before .before .before .args .head .now) (c .before .before .before .before .before .before .before .before .before .before .before .before .before .args .id .now) (c .before .before .reach .ensures) (not-true _ (c .if1 .taken)) _ _))))
+returns-2 c =
+    let at-start = c .before .before .before .before .before .before .before .before .before .before .before .before .before in
+    answered (passed (c .before .before .before)) Refused (jump-lost _ _ _ _ _ (sym (climb-off-u _ _ _ _ (reached-off (at-start .args .parent .now) (at-start .args .depth .now) (at-start .args .head .now) (at-start .args .id .now) (c .before .before .reach .ensures) (not-true _ (c .if1 .taken)) _ _))))
 
 reach-requires-2 : tie.Need-reach-requires-2
 reach-requires-2 c κs = record { even = lengths (passed (c .before .before .before)) .even; vertex = first-below (others (passed (c .before .before .before))) }
 
 returns-3 : tie.Need-returns-3
-returns-3 c = answered (passed (c .before .before .before .before .before .before)) Refused (jump-lost _ _ _ _ _ (sym (climb-none-v _ _ _ _ (reached-off (c .before .before .before .before .before .before .before .before .before .before .before .before .before .before .before .before .args .parent .now) (c .before .before .before .before .before .before .before .before .before .before .before .before .before .before .before .before .args .depth .now) (c .before .before .before .before .before .before .before .before .before .before .before .before .before .before .before .before .args .head .now) (c .before .before .before .before .before .before .before .before .before .before .before .before .before .before .before .before .args .id .now) (c .before .before .reach2 .ensures) (not-true _ (c .if2 .taken)) _ _))))
+returns-3 c =
+    let at-start = c .before .before .before .before .before .before .before .before .before .before .before .before .before .before .before .before in
+    answered (passed (c .before .before .before .before .before .before)) Refused (jump-lost _ _ _ _ _ (sym (climb-none-v _ _ _ _ (reached-off (at-start .args .parent .now) (at-start .args .depth .now) (at-start .args .head .now) (at-start .args .id .now) (c .before .before .reach2 .ensures) (not-true _ (c .if2 .taken)) _ _))))
 
 jump-from-requires : tie.Need-jump-from-requires
-jump-from-requires c κs = record { climbs = climbs-from (c .before .before .before .before .before .before .before .before .before .before .before .before .before .before .before .before .args .parent .now) (c .before .before .before .before .before .before .before .before .before .before .before .before .before .before .before .before .args .depth .now) (c .before .before .before .before .before .before .before .before .before .before .before .before .before .before .before .before .args .head .now) (c .before .before .before .before .before .before .before .before .before .before .before .before .before .before .before .before .args .id .now) (c .before .before .before .before .before .reach .ensures) (not-false _ (c .before .before .before .if1 .left)) (c .before .before .reach2 .ensures) (not-false _ (c .if2 .left)) (lengths (passed (c .before .before .before .before .before .before)) .even) (few-parent (lengths (passed (c .before .before .before .before .before .before)) .few)); order = lengths (passed (c .before .before .before .before .before .before)) .order }
+jump-from-requires c κs =
+    let at-start = c .before .before .before .before .before .before .before .before .before .before .before .before .before .before .before .before in
+    record { climbs = climbs-from (at-start .args .parent .now) (at-start .args .depth .now) (at-start .args .head .now) (at-start .args .id .now) (c .before .before .before .before .before .reach .ensures) (not-false _ (c .before .before .before .if1 .left)) (c .before .before .reach2 .ensures) (not-false _ (c .if2 .left)) (lengths (passed (c .before .before .before .before .before .before)) .even) (few-parent (lengths (passed (c .before .before .before .before .before .before)) .few)); order = lengths (passed (c .before .before .before .before .before .before)) .order }
 
 returns-4 : tie.Need-returns-4
-returns-4 c = answered (passed (c .before .before .before .before .before .before .before)) Refused (c .jump-from .ensures _ ∙ jump-there _ _ _ (reached-vertex (c .before .before .before .before .before .before .before .before .before .before .before .before .before .before .before .before .before .args .parent .now) (c .before .before .before .before .before .before .before .before .before .before .before .before .before .before .before .before .before .args .depth .now) (c .before .before .before .before .before .before .before .before .before .before .before .before .before .before .before .before .before .args .head .now) (c .before .before .before .before .before .before .before .before .before .before .before .before .before .before .before .before .before .args .id .now) (c .before .before .before .before .before .before .reach .ensures) (not-false _ (c .before .before .before .before .if1 .left))) (reached-vertex (c .before .before .before .before .before .before .before .before .before .before .before .before .before .before .before .before .before .args .parent .now) (c .before .before .before .before .before .before .before .before .before .before .before .before .before .before .before .before .before .args .depth .now) (c .before .before .before .before .before .before .before .before .before .before .before .before .before .before .before .before .before .args .head .now) (c .before .before .before .before .before .before .before .before .before .before .before .before .before .before .before .before .before .args .id .now) (c .before .before .before .reach2 .ensures) (not-false _ (c .before .if2 .left))))
+returns-4 c =
+    let at-start = c .before .before .before .before .before .before .before .before .before .before .before .before .before .before .before .before .before in
+    answered (passed (c .before .before .before .before .before .before .before)) Refused (c .jump-from .ensures _ ∙ jump-there _ _ _ (reached-vertex (at-start .args .parent .now) (at-start .args .depth .now) (at-start .args .head .now) (at-start .args .id .now) (c .before .before .before .before .before .before .reach .ensures) (not-false _ (c .before .before .before .before .if1 .left))) (reached-vertex (at-start .args .parent .now) (at-start .args .depth .now) (at-start .args .head .now) (at-start .args .id .now) (c .before .before .before .reach2 .ensures) (not-false _ (c .before .if2 .left))))
 
 pub jump-spec : {M : Type 1} → statement M
 jump-spec =

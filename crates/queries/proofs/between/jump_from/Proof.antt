@@ -21,28 +21,42 @@ enum-told : tie.Need-enum-told
 enum-told c = search needs
 
 returns : tie.Need-returns
-returns c = λ s. jump-lost _ _ _ _ _ (climbed-off (c .before .before .before .before .before .before .before .before .args .parent .now) (c .before .before .before .before .before .before .before .before .args .depth .now) (c .before .before .before .before .before .before .before .before .args .head .now) (c .before .before .before .before .before .before .before .before .args .id .now) (c .before .before .climb-to-lca .ensures) (c .enum-told .given .1) _ s)
+returns c =
+    let at-start = c .before .before .before .before .before .before .before .before in
+    λ s. jump-lost _ _ _ _ _ (climbed-off (at-start .args .parent .now) (at-start .args .depth .now) (at-start .args .head .now) (at-start .args .id .now) (c .before .before .climb-to-lca .ensures) (c .enum-told .given .1) _ s)
 
 hangs-requires : tie.Need-hangs-requires
-hangs-requires c κs = record { depth = c .before .before .before .before .before .before .before .before .before .pre .climbs .even .depth; id = c .before .before .before .before .before .before .before .before .before .pre .climbs .even .id }
+hangs-requires c κs =
+    let at-start = c .before .before .before .before .before .before .before .before .before in
+    record { depth = at-start .pre .climbs .even .depth; id = at-start .pre .climbs .even .id }
 
 returns-2 : tie.Need-returns-2
-returns-2 c = λ s. jump-lost _ _ _ _ _ (climbed-unhung (c .before .before .before .before .before .before .before .before .before .before .before .args .parent .now) (c .before .before .before .before .before .before .before .before .before .before .before .args .depth .now) (c .before .before .before .before .before .before .before .before .before .before .before .args .head .now) (c .before .before .before .before .before .before .before .before .before .before .before .args .id .now) (c .before .before .before .before .before .climb-to-lca .ensures) (c .before .before .before .c .given .1) (sym (c .before .hangs .ensures) ∙ not-true _ (c .if1 .taken)) _ s)
+returns-2 c =
+    let at-start = c .before .before .before .before .before .before .before .before .before .before .before in
+    λ s. jump-lost _ _ _ _ _ (climbed-unhung (at-start .args .parent .now) (at-start .args .depth .now) (at-start .args .head .now) (at-start .args .id .now) (c .before .before .before .before .before .climb-to-lca .ensures) (c .before .before .before .c .given .1) (sym (c .before .hangs .ensures) ∙ not-true _ (c .if1 .taken)) _ s)
 
 ancestor-requires : tie.Need-ancestor-requires
 ancestor-requires c κs = search needs
 
 sub-up : tie.Need-sub-up
-sub-up c = p-low (c .before .before .before .before .before .before .before .before .before .before .before .before .before .before .args .parent .now) (c .before .before .before .before .before .before .before .before .before .before .before .before .before .before .args .depth .now) (c .before .before .before .before .before .before .before .before .before .before .before .before .before .before .args .head .now) (c .before .before .before .before .before .before .before .before .before .before .before .before .before .before .args .id .now) (c .before .before .before .before .before .before .before .before .before .before .before .before .before .before .pre .climbs) (c .before .before .before .before .before .before .before .before .climb-to-lca .ensures) (c .before .before .before .before .before .before .c .given .1) (c .before .before .ancestor .ensures)
+sub-up c =
+    let at-start = c .before .before .before .before .before .before .before .before .before .before .before .before .before .before in
+    p-low (at-start .args .parent .now) (at-start .args .depth .now) (at-start .args .head .now) (at-start .args .id .now) (at-start .pre .climbs) (c .before .before .before .before .before .before .before .before .climb-to-lca .ensures) (c .before .before .before .before .before .before .c .given .1) (c .before .before .ancestor .ensures)
 
 sub-all : tie.Need-sub-all
-sub-all c = q-low (c .before .before .before .before .before .before .before .before .before .before .before .before .before .before .before .before .args .parent .now) (c .before .before .before .before .before .before .before .before .before .before .before .before .before .before .before .before .args .depth .now) (c .before .before .before .before .before .before .before .before .before .before .before .before .before .before .before .before .args .head .now) (c .before .before .before .before .before .before .before .before .before .before .before .before .before .before .before .before .args .id .now) (c .before .before .before .before .before .before .before .before .before .before .before .before .before .before .before .before .pre .climbs) (c .before .before .before .before .before .before .before .before .before .before .climb-to-lca .ensures) (c .before .before .before .before .before .before .before .before .c .given .1) (c .before .before .before .before .ancestor .ensures)
+sub-all c =
+    let at-start = c .before .before .before .before .before .before .before .before .before .before .before .before .before .before .before .before in
+    q-low (at-start .args .parent .now) (at-start .args .depth .now) (at-start .args .head .now) (at-start .args .id .now) (at-start .pre .climbs) (c .before .before .before .before .before .before .before .before .before .before .climb-to-lca .ensures) (c .before .before .before .before .before .before .before .before .c .given .1) (c .before .before .before .before .ancestor .ensures)
 
 add-all : tie.Need-add-all
-add-all c = omega (arith, c .before .before .before .before .before .before .before .before .before .before .before .before .before .before .before .before .good, seat-facts (c .before .before .before .before .before .before .before .before .before .before .before .before .before .before .before .before .args .parent .now) (c .before .before .before .before .before .before .before .before .before .before .before .before .before .before .before .before .args .depth .now) (c .before .before .before .before .before .before .before .before .before .before .before .before .before .before .before .before .args .head .now) (c .before .before .before .before .before .before .before .before .before .before .before .before .before .before .before .before .args .id .now) _ (c .before .before .before .before .before .before .before .before .before .before .before .before .before .before .before .before .pre .climbs .on-p), seat-facts (c .before .before .before .before .before .before .before .before .before .before .before .before .before .before .before .before .args .parent .now) (c .before .before .before .before .before .before .before .before .before .before .before .before .before .before .before .before .args .depth .now) (c .before .before .before .before .before .before .before .before .before .before .before .before .before .before .before .before .args .head .now) (c .before .before .before .before .before .before .before .before .before .before .before .before .before .before .before .before .args .id .now) _ (c .before .before .before .before .before .before .before .before .before .before .before .before .before .before .before .before .pre .climbs .on-q))
+add-all c =
+    let at-start = c .before .before .before .before .before .before .before .before .before .before .before .before .before .before .before .before in
+    omega (arith, at-start .good, seat-facts (at-start .args .parent .now) (at-start .args .depth .now) (at-start .args .head .now) (at-start .args .id .now) _ (at-start .pre .climbs .on-p), seat-facts (at-start .args .parent .now) (at-start .args .depth .now) (at-start .args .head .now) (at-start .args .id .now) _ (at-start .pre .climbs .on-q))
 
 ancestor-from-requires : tie.Need-ancestor-from-requires
-ancestor-from-requires c κs = record { even = c .before .before .before .before .before .before .before .before .before .before .before .before .before .before .before .before .before .pre .climbs .even; order = c .before .before .before .before .before .before .before .before .before .before .before .before .before .before .before .before .before .pre .order; seat = c .before .before .before .before .before .before .before .before .before .before .before .before .before .before .before .before .before .pre .climbs .on-p }
+ancestor-from-requires c κs =
+    let at-start = c .before .before .before .before .before .before .before .before .before .before .before .before .before .before .before .before .before in
+    record { even = at-start .pre .climbs .even; order = at-start .pre .order; seat = at-start .pre .climbs .on-p }
 
 enum-known-found : tie.Need-enum-known-found
 enum-known-found c = search needs
@@ -51,16 +65,24 @@ enum-told-2 : tie.Need-enum-told-2
 enum-told-2 c = search needs
 
 returns-3 : tie.Need-returns-3
-returns-3 c = λ s. c .before .before .ancestor-from .ensures s ∙ (rise-from (c .before .before .before .before .before .before .before .before .before .before .before .before .before .before .before .before .before .before .before .before .args .parent .now) (c .before .before .before .before .before .before .before .before .before .before .before .before .before .before .before .before .before .before .before .before .args .depth .now) (c .before .before .before .before .before .before .before .before .before .before .before .before .before .before .before .before .before .before .before .before .args .head .now) (c .before .before .before .before .before .before .before .before .before .before .before .before .before .before .before .before .before .before .before .before .args .id .now) (c .before .before .before .before .before .before .before .before .before .before .before .before .before .before .before .before .before .before .before .before .args .order .now) _ _ (c .before .before .before .before .before .before .before .before .before .before .before .before .before .before .before .before .before .before .before .before .pre .climbs .on-p) s ∙ jump-up _ _ _ _ _ (ap (λ (x : Place). x .depth) (c .before .before .before .before .before .before .before .before .before .before .before .before .before .before .before .before .before .before .before .before .pre .climbs .on-p .place)) (ap (λ (x : Place). x .depth) (c .before .before .before .before .before .before .before .before .before .before .before .before .before .before .before .before .before .before .before .before .pre .climbs .on-q .place)) (climbed-on (c .before .before .before .before .before .before .before .before .before .before .before .before .before .before .before .before .before .before .before .before .args .parent .now) (c .before .before .before .before .before .before .before .before .before .before .before .before .before .before .before .before .before .before .before .before .args .depth .now) (c .before .before .before .before .before .before .before .before .before .before .before .before .before .before .before .before .before .before .before .before .args .head .now) (c .before .before .before .before .before .before .before .before .before .before .before .before .before .before .before .before .before .before .before .before .args .id .now) (c .before .before .before .before .before .before .before .before .before .before .before .before .before .before .climb-to-lca .ensures) (c .before .before .before .before .before .before .before .before .before .before .before .before .c .given .1) (sym (c .before .before .before .before .before .before .before .before .before .before .hangs .ensures) ∙ not-false _ (c .before .before .before .before .before .before .before .before .before .if1 .left)) _ s) (c .before .before .before .before .before .before .before .before .ancestor .ensures) (c .before .before .before .if2 .taken))
+returns-3 c =
+    let at-start = c .before .before .before .before .before .before .before .before .before .before .before .before .before .before .before .before .before .before .before .before in
+    λ s. c .before .before .ancestor-from .ensures s ∙ (rise-from (at-start .args .parent .now) (at-start .args .depth .now) (at-start .args .head .now) (at-start .args .id .now) (at-start .args .order .now) _ _ (at-start .pre .climbs .on-p) s ∙ jump-up _ _ _ _ _ (ap (λ (x : Place). x .depth) (at-start .pre .climbs .on-p .place)) (ap (λ (x : Place). x .depth) (at-start .pre .climbs .on-q .place)) (climbed-on (at-start .args .parent .now) (at-start .args .depth .now) (at-start .args .head .now) (at-start .args .id .now) (c .before .before .before .before .before .before .before .before .before .before .before .before .before .before .climb-to-lca .ensures) (c .before .before .before .before .before .before .before .before .before .before .before .before .c .given .1) (sym (c .before .before .before .before .before .before .before .before .before .before .hangs .ensures) ∙ not-false _ (c .before .before .before .before .before .before .before .before .before .if1 .left)) _ s) (c .before .before .before .before .before .before .before .before .ancestor .ensures) (c .before .before .before .if2 .taken))
 
 returns-4 : tie.Need-returns-4
-returns-4 c = λ s. sym (c .before .found .given .1) ∙ (c .before .before .before .ancestor-from .ensures s ∙ (rise-from (c .before .before .before .before .before .before .before .before .before .before .before .before .before .before .before .before .before .before .before .before .before .args .parent .now) (c .before .before .before .before .before .before .before .before .before .before .before .before .before .before .before .before .before .before .before .before .before .args .depth .now) (c .before .before .before .before .before .before .before .before .before .before .before .before .before .before .before .before .before .before .before .before .before .args .head .now) (c .before .before .before .before .before .before .before .before .before .before .before .before .before .before .before .before .before .before .before .before .before .args .id .now) (c .before .before .before .before .before .before .before .before .before .before .before .before .before .before .before .before .before .before .before .before .before .args .order .now) _ _ (c .before .before .before .before .before .before .before .before .before .before .before .before .before .before .before .before .before .before .before .before .before .pre .climbs .on-p) s ∙ jump-up _ _ _ _ _ (ap (λ (x : Place). x .depth) (c .before .before .before .before .before .before .before .before .before .before .before .before .before .before .before .before .before .before .before .before .before .pre .climbs .on-p .place)) (ap (λ (x : Place). x .depth) (c .before .before .before .before .before .before .before .before .before .before .before .before .before .before .before .before .before .before .before .before .before .pre .climbs .on-q .place)) (climbed-on (c .before .before .before .before .before .before .before .before .before .before .before .before .before .before .before .before .before .before .before .before .before .args .parent .now) (c .before .before .before .before .before .before .before .before .before .before .before .before .before .before .before .before .before .before .before .before .before .args .depth .now) (c .before .before .before .before .before .before .before .before .before .before .before .before .before .before .before .before .before .before .before .before .before .args .head .now) (c .before .before .before .before .before .before .before .before .before .before .before .before .before .before .before .before .before .before .before .before .before .args .id .now) (c .before .before .before .before .before .before .before .before .before .before .before .before .before .before .before .climb-to-lca .ensures) (c .before .before .before .before .before .before .before .before .before .before .before .before .before .c .given .1) (sym (c .before .before .before .before .before .before .before .before .before .before .before .hangs .ensures) ∙ not-false _ (c .before .before .before .before .before .before .before .before .before .before .if1 .left)) _ s) (c .before .before .before .before .before .before .before .before .before .ancestor .ensures) (c .before .before .before .before .if2 .taken)))
+returns-4 c =
+    let at-start = c .before .before .before .before .before .before .before .before .before .before .before .before .before .before .before .before .before .before .before .before .before in
+    λ s. sym (c .before .found .given .1) ∙ (c .before .before .before .ancestor-from .ensures s ∙ (rise-from (at-start .args .parent .now) (at-start .args .depth .now) (at-start .args .head .now) (at-start .args .id .now) (at-start .args .order .now) _ _ (at-start .pre .climbs .on-p) s ∙ jump-up _ _ _ _ _ (ap (λ (x : Place). x .depth) (at-start .pre .climbs .on-p .place)) (ap (λ (x : Place). x .depth) (at-start .pre .climbs .on-q .place)) (climbed-on (at-start .args .parent .now) (at-start .args .depth .now) (at-start .args .head .now) (at-start .args .id .now) (c .before .before .before .before .before .before .before .before .before .before .before .before .before .before .before .climb-to-lca .ensures) (c .before .before .before .before .before .before .before .before .before .before .before .before .before .c .given .1) (sym (c .before .before .before .before .before .before .before .before .before .before .before .hangs .ensures) ∙ not-false _ (c .before .before .before .before .before .before .before .before .before .before .if1 .left)) _ s) (c .before .before .before .before .before .before .before .before .before .ancestor .ensures) (c .before .before .before .before .if2 .taken)))
 
 returns-5 : tie.Need-returns-5
-returns-5 c = λ s. jump-far _ _ _ _ _ (ap (λ (x : Place). x .depth) (c .before .before .before .before .before .before .before .before .before .before .before .before .before .before .before .before .before .before .pre .climbs .on-p .place)) (ap (λ (x : Place). x .depth) (c .before .before .before .before .before .before .before .before .before .before .before .before .before .before .before .before .before .before .pre .climbs .on-q .place)) (climbed-on (c .before .before .before .before .before .before .before .before .before .before .before .before .before .before .before .before .before .before .args .parent .now) (c .before .before .before .before .before .before .before .before .before .before .before .before .before .before .before .before .before .before .args .depth .now) (c .before .before .before .before .before .before .before .before .before .before .before .before .before .before .before .before .before .before .args .head .now) (c .before .before .before .before .before .before .before .before .before .before .before .before .before .before .before .before .before .before .args .id .now) (c .before .before .before .before .before .before .before .before .before .before .before .before .climb-to-lca .ensures) (c .before .before .before .before .before .before .before .before .before .before .c .given .1) (sym (c .before .before .before .before .before .before .before .before .hangs .ensures) ∙ not-false _ (c .before .before .before .before .before .before .before .if1 .left)) _ s) (c .before .before .before .before .before .before .ancestor .ensures) (c .before .if2 .left) (c .if3 .taken)
+returns-5 c =
+    let at-start = c .before .before .before .before .before .before .before .before .before .before .before .before .before .before .before .before .before .before in
+    λ s. jump-far _ _ _ _ _ (ap (λ (x : Place). x .depth) (at-start .pre .climbs .on-p .place)) (ap (λ (x : Place). x .depth) (at-start .pre .climbs .on-q .place)) (climbed-on (at-start .args .parent .now) (at-start .args .depth .now) (at-start .args .head .now) (at-start .args .id .now) (c .before .before .before .before .before .before .before .before .before .before .before .before .climb-to-lca .ensures) (c .before .before .before .before .before .before .before .before .before .before .c .given .1) (sym (c .before .before .before .before .before .before .before .before .hangs .ensures) ∙ not-false _ (c .before .before .before .before .before .before .before .if1 .left)) _ s) (c .before .before .before .before .before .before .ancestor .ensures) (c .before .if2 .left) (c .if3 .taken)
 
 ancestor-from-requires-2 : tie.Need-ancestor-from-requires-2
-ancestor-from-requires-2 c κs = record { even = c .before .before .before .before .before .before .before .before .before .before .before .before .before .before .before .before .before .before .pre .climbs .even; order = c .before .before .before .before .before .before .before .before .before .before .before .before .before .before .before .before .before .before .pre .order; seat = c .before .before .before .before .before .before .before .before .before .before .before .before .before .before .before .before .before .before .pre .climbs .on-q }
+ancestor-from-requires-2 c κs =
+    let at-start = c .before .before .before .before .before .before .before .before .before .before .before .before .before .before .before .before .before .before in
+    record { even = at-start .pre .climbs .even; order = at-start .pre .order; seat = at-start .pre .climbs .on-q }
 
 enum-known-found-2 : tie.Need-enum-known-found-2
 enum-known-found-2 c = search needs
@@ -69,10 +91,14 @@ enum-told-3 : tie.Need-enum-told-3
 enum-told-3 c = search needs
 
 returns-6 : tie.Need-returns-6
-returns-6 c = λ s. c .before .before .ancestor-from2 .ensures s ∙ (rise-from (c .before .before .before .before .before .before .before .before .before .before .before .before .before .before .before .before .before .before .before .before .before .args .parent .now) (c .before .before .before .before .before .before .before .before .before .before .before .before .before .before .before .before .before .before .before .before .before .args .depth .now) (c .before .before .before .before .before .before .before .before .before .before .before .before .before .before .before .before .before .before .before .before .before .args .head .now) (c .before .before .before .before .before .before .before .before .before .before .before .before .before .before .before .before .before .before .before .before .before .args .id .now) (c .before .before .before .before .before .before .before .before .before .before .before .before .before .before .before .before .before .before .before .before .before .args .order .now) _ _ (c .before .before .before .before .before .before .before .before .before .before .before .before .before .before .before .before .before .before .before .before .before .pre .climbs .on-q) s ∙ jump-down _ _ _ _ _ (ap (λ (x : Place). x .depth) (c .before .before .before .before .before .before .before .before .before .before .before .before .before .before .before .before .before .before .before .before .before .pre .climbs .on-p .place)) (ap (λ (x : Place). x .depth) (c .before .before .before .before .before .before .before .before .before .before .before .before .before .before .before .before .before .before .before .before .before .pre .climbs .on-q .place)) (climbed-on (c .before .before .before .before .before .before .before .before .before .before .before .before .before .before .before .before .before .before .before .before .before .args .parent .now) (c .before .before .before .before .before .before .before .before .before .before .before .before .before .before .before .before .before .before .before .before .before .args .depth .now) (c .before .before .before .before .before .before .before .before .before .before .before .before .before .before .before .before .before .before .before .before .before .args .head .now) (c .before .before .before .before .before .before .before .before .before .before .before .before .before .before .before .before .before .before .before .before .before .args .id .now) (c .before .before .before .before .before .before .before .before .before .before .before .before .before .before .before .climb-to-lca .ensures) (c .before .before .before .before .before .before .before .before .before .before .before .before .before .c .given .1) (sym (c .before .before .before .before .before .before .before .before .before .before .before .hangs .ensures) ∙ not-false _ (c .before .before .before .before .before .before .before .before .before .before .if1 .left)) _ s) (c .before .before .before .before .before .before .before .before .before .ancestor .ensures) (c .before .before .before .before .if2 .left) (c .before .before .before .if3 .left))
+returns-6 c =
+    let at-start = c .before .before .before .before .before .before .before .before .before .before .before .before .before .before .before .before .before .before .before .before .before in
+    λ s. c .before .before .ancestor-from2 .ensures s ∙ (rise-from (at-start .args .parent .now) (at-start .args .depth .now) (at-start .args .head .now) (at-start .args .id .now) (at-start .args .order .now) _ _ (at-start .pre .climbs .on-q) s ∙ jump-down _ _ _ _ _ (ap (λ (x : Place). x .depth) (at-start .pre .climbs .on-p .place)) (ap (λ (x : Place). x .depth) (at-start .pre .climbs .on-q .place)) (climbed-on (at-start .args .parent .now) (at-start .args .depth .now) (at-start .args .head .now) (at-start .args .id .now) (c .before .before .before .before .before .before .before .before .before .before .before .before .before .before .before .climb-to-lca .ensures) (c .before .before .before .before .before .before .before .before .before .before .before .before .before .c .given .1) (sym (c .before .before .before .before .before .before .before .before .before .before .before .hangs .ensures) ∙ not-false _ (c .before .before .before .before .before .before .before .before .before .before .if1 .left)) _ s) (c .before .before .before .before .before .before .before .before .before .ancestor .ensures) (c .before .before .before .before .if2 .left) (c .before .before .before .if3 .left))
 
 returns-7 : tie.Need-returns-7
-returns-7 c = λ s. sym (c .before .found2 .given .1) ∙ (c .before .before .before .ancestor-from2 .ensures s ∙ (rise-from (c .before .before .before .before .before .before .before .before .before .before .before .before .before .before .before .before .before .before .before .before .before .before .args .parent .now) (c .before .before .before .before .before .before .before .before .before .before .before .before .before .before .before .before .before .before .before .before .before .before .args .depth .now) (c .before .before .before .before .before .before .before .before .before .before .before .before .before .before .before .before .before .before .before .before .before .before .args .head .now) (c .before .before .before .before .before .before .before .before .before .before .before .before .before .before .before .before .before .before .before .before .before .before .args .id .now) (c .before .before .before .before .before .before .before .before .before .before .before .before .before .before .before .before .before .before .before .before .before .before .args .order .now) _ _ (c .before .before .before .before .before .before .before .before .before .before .before .before .before .before .before .before .before .before .before .before .before .before .pre .climbs .on-q) s ∙ jump-down _ _ _ _ _ (ap (λ (x : Place). x .depth) (c .before .before .before .before .before .before .before .before .before .before .before .before .before .before .before .before .before .before .before .before .before .before .pre .climbs .on-p .place)) (ap (λ (x : Place). x .depth) (c .before .before .before .before .before .before .before .before .before .before .before .before .before .before .before .before .before .before .before .before .before .before .pre .climbs .on-q .place)) (climbed-on (c .before .before .before .before .before .before .before .before .before .before .before .before .before .before .before .before .before .before .before .before .before .before .args .parent .now) (c .before .before .before .before .before .before .before .before .before .before .before .before .before .before .before .before .before .before .before .before .before .before .args .depth .now) (c .before .before .before .before .before .before .before .before .before .before .before .before .before .before .before .before .before .before .before .before .before .before .args .head .now) (c .before .before .before .before .before .before .before .before .before .before .before .before .before .before .before .before .before .before .before .before .before .before .args .id .now) (c .before .before .before .before .before .before .before .before .before .before .before .before .before .before .before .before .climb-to-lca .ensures) (c .before .before .before .before .before .before .before .before .before .before .before .before .before .before .c .given .1) (sym (c .before .before .before .before .before .before .before .before .before .before .before .before .hangs .ensures) ∙ not-false _ (c .before .before .before .before .before .before .before .before .before .before .before .if1 .left)) _ s) (c .before .before .before .before .before .before .before .before .before .before .ancestor .ensures) (c .before .before .before .before .before .if2 .left) (c .before .before .before .before .if3 .left)))
+returns-7 c =
+    let at-start = c .before .before .before .before .before .before .before .before .before .before .before .before .before .before .before .before .before .before .before .before .before .before in
+    λ s. sym (c .before .found2 .given .1) ∙ (c .before .before .before .ancestor-from2 .ensures s ∙ (rise-from (at-start .args .parent .now) (at-start .args .depth .now) (at-start .args .head .now) (at-start .args .id .now) (at-start .args .order .now) _ _ (at-start .pre .climbs .on-q) s ∙ jump-down _ _ _ _ _ (ap (λ (x : Place). x .depth) (at-start .pre .climbs .on-p .place)) (ap (λ (x : Place). x .depth) (at-start .pre .climbs .on-q .place)) (climbed-on (at-start .args .parent .now) (at-start .args .depth .now) (at-start .args .head .now) (at-start .args .id .now) (c .before .before .before .before .before .before .before .before .before .before .before .before .before .before .before .before .climb-to-lca .ensures) (c .before .before .before .before .before .before .before .before .before .before .before .before .before .before .c .given .1) (sym (c .before .before .before .before .before .before .before .before .before .before .before .before .hangs .ensures) ∙ not-false _ (c .before .before .before .before .before .before .before .before .before .before .before .if1 .left)) _ s) (c .before .before .before .before .before .before .before .before .before .before .ancestor .ensures) (c .before .before .before .before .before .if2 .left) (c .before .before .before .before .if3 .left)))
 
 pub jump-from-spec : {M : Type 1} → statement M
 jump-from-spec =

@@ -35,7 +35,9 @@ enum-known-refusal : tie.Need-enum-known-refusal
 enum-known-refusal c = search needs
 
 returns : tie.Need-returns
-returns c = verdict-refused (lent (c .before .before .before .before .before .before .before .before .before .before .before)) (c .before .before .before .before .before .before .before .before .before .before .before .args .r ∷ c .before .before .before .before .before .before .before .before .before .before .before .args .u ∷ c .before .before .before .before .before .before .before .before .before .before .before .args .v ∷ []) Refused _ (sym (c .before .before .before .asked .ensures) ∙ c .before .refusal .given .1)
+returns c =
+    let at-start = c .before .before .before .before .before .before .before .before .before .before .before in
+    verdict-refused (lent (c .before .before .before .before .before .before .before .before .before .before .before)) (at-start .args .r ∷ at-start .args .u ∷ at-start .args .v ∷ []) Refused _ (sym (c .before .before .before .asked .ensures) ∙ c .before .refusal .given .1)
 
 enum-told : tie.Need-enum-told
 enum-told c = search needs
@@ -44,22 +46,30 @@ reach-requires : tie.Need-reach-requires
 reach-requires c κs = record { even = lengths (passed c) .even; vertex = first-below (passed c) }
 
 returns-2 : tie.Need-returns-2
-returns-2 c = answered (passed (c .before .before .before)) Refused (lca-off-r _ _ _ _ _ (reached-off (c .before .before .before .before .before .before .before .before .before .before .before .before .before .args .parent .now) (c .before .before .before .before .before .before .before .before .before .before .before .before .before .args .depth .now) (c .before .before .before .before .before .before .before .before .before .before .before .before .before .args .head .now) (c .before .before .before .before .before .before .before .before .before .before .before .before .before .args .id .now) (c .before .before .reach .ensures) (not-true _ (c .if1 .taken)) _ _))
+returns-2 c =
+    let at-start = c .before .before .before .before .before .before .before .before .before .before .before .before .before in
+    answered (passed (c .before .before .before)) Refused (lca-off-r _ _ _ _ _ (reached-off (at-start .args .parent .now) (at-start .args .depth .now) (at-start .args .head .now) (at-start .args .id .now) (c .before .before .reach .ensures) (not-true _ (c .if1 .taken)) _ _))
 
 reach-requires-2 : tie.Need-reach-requires-2
 reach-requires-2 c κs = record { even = lengths (passed (c .before .before .before)) .even; vertex = first-below (others (passed (c .before .before .before))) }
 
 returns-3 : tie.Need-returns-3
-returns-3 c = answered (passed (c .before .before .before .before .before .before)) Refused (lca-lost-1 _ _ _ _ _ (ap endOf (sym (climb-off-u _ _ _ _ (reached-off (c .before .before .before .before .before .before .before .before .before .before .before .before .before .before .before .before .args .parent .now) (c .before .before .before .before .before .before .before .before .before .before .before .before .before .before .before .before .args .depth .now) (c .before .before .before .before .before .before .before .before .before .before .before .before .before .before .before .before .args .head .now) (c .before .before .before .before .before .before .before .before .before .before .before .before .before .before .before .before .args .id .now) (c .before .before .reach2 .ensures) (not-true _ (c .if2 .taken)) _ _)))))
+returns-3 c =
+    let at-start = c .before .before .before .before .before .before .before .before .before .before .before .before .before .before .before .before in
+    answered (passed (c .before .before .before .before .before .before)) Refused (lca-lost-1 _ _ _ _ _ (ap endOf (sym (climb-off-u _ _ _ _ (reached-off (at-start .args .parent .now) (at-start .args .depth .now) (at-start .args .head .now) (at-start .args .id .now) (c .before .before .reach2 .ensures) (not-true _ (c .if2 .taken)) _ _)))))
 
 reach-requires-3 : tie.Need-reach-requires-3
 reach-requires-3 c κs = record { even = lengths (passed (c .before .before .before .before .before .before)) .even; vertex = first-below (others (others (passed (c .before .before .before .before .before .before)))) }
 
 returns-4 : tie.Need-returns-4
-returns-4 c = answered (passed (c .before .before .before .before .before .before .before .before .before)) Refused (lca-lost-1 _ _ _ _ _ (ap endOf (sym (climb-none-v _ _ _ _ (reached-off (c .before .before .before .before .before .before .before .before .before .before .before .before .before .before .before .before .before .before .before .args .parent .now) (c .before .before .before .before .before .before .before .before .before .before .before .before .before .before .before .before .before .before .before .args .depth .now) (c .before .before .before .before .before .before .before .before .before .before .before .before .before .before .before .before .before .before .before .args .head .now) (c .before .before .before .before .before .before .before .before .before .before .before .before .before .before .before .before .before .before .before .args .id .now) (c .before .before .reach3 .ensures) (not-true _ (c .if3 .taken)) _ _)))))
+returns-4 c =
+    let at-start = c .before .before .before .before .before .before .before .before .before .before .before .before .before .before .before .before .before .before .before in
+    answered (passed (c .before .before .before .before .before .before .before .before .before)) Refused (lca-lost-1 _ _ _ _ _ (ap endOf (sym (climb-none-v _ _ _ _ (reached-off (at-start .args .parent .now) (at-start .args .depth .now) (at-start .args .head .now) (at-start .args .id .now) (c .before .before .reach3 .ensures) (not-true _ (c .if3 .taken)) _ _)))))
 
 meeting-requires : tie.Need-meeting-requires
-meeting-requires c κs = climbs-from (c .before .before .before .before .before .before .before .before .before .before .before .before .before .before .before .before .before .before .before .args .parent .now) (c .before .before .before .before .before .before .before .before .before .before .before .before .before .before .before .before .before .before .before .args .depth .now) (c .before .before .before .before .before .before .before .before .before .before .before .before .before .before .before .before .before .before .before .args .head .now) (c .before .before .before .before .before .before .before .before .before .before .before .before .before .before .before .before .before .before .before .args .id .now) (c .before .before .before .before .before .reach2 .ensures) (not-false _ (c .before .before .before .if2 .left)) (c .before .before .reach3 .ensures) (not-false _ (c .if3 .left)) (lengths (passed (c .before .before .before .before .before .before .before .before .before)) .even) (few-parent (lengths (passed (c .before .before .before .before .before .before .before .before .before)) .few))
+meeting-requires c κs =
+    let at-start = c .before .before .before .before .before .before .before .before .before .before .before .before .before .before .before .before .before .before .before in
+    climbs-from (at-start .args .parent .now) (at-start .args .depth .now) (at-start .args .head .now) (at-start .args .id .now) (c .before .before .before .before .before .reach2 .ensures) (not-false _ (c .before .before .before .if2 .left)) (c .before .before .reach3 .ensures) (not-false _ (c .if3 .left)) (lengths (passed (c .before .before .before .before .before .before .before .before .before)) .even) (few-parent (lengths (passed (c .before .before .before .before .before .before .before .before .before)) .few))
 
 enum-known-a : tie.Need-enum-known-a
 enum-known-a c = search needs
@@ -68,10 +78,14 @@ enum-told-2 : tie.Need-enum-told-2
 enum-told-2 c = search needs
 
 returns-5 : tie.Need-returns-5
-returns-5 c = answered (passed (c .before .before .before .before .before .before .before .before .before .before .before .before)) Refused (lca-lost-1 _ _ _ _ _ (sym (ended-there _ _ (reached-vertex (c .before .before .before .before .before .before .before .before .before .before .before .before .before .before .before .before .before .before .before .before .before .before .args .parent .now) (c .before .before .before .before .before .before .before .before .before .before .before .before .before .before .before .before .before .before .before .before .before .before .args .depth .now) (c .before .before .before .before .before .before .before .before .before .before .before .before .before .before .before .before .before .before .before .before .before .before .args .head .now) (c .before .before .before .before .before .before .before .before .before .before .before .before .before .before .before .before .before .before .before .before .before .before .args .id .now) (c .before .before .before .before .before .before .before .before .reach2 .ensures) (not-false _ (c .before .before .before .before .before .before .if2 .left))) (reached-vertex (c .before .before .before .before .before .before .before .before .before .before .before .before .before .before .before .before .before .before .before .before .before .before .args .parent .now) (c .before .before .before .before .before .before .before .before .before .before .before .before .before .before .before .before .before .before .before .before .before .before .args .depth .now) (c .before .before .before .before .before .before .before .before .before .before .before .before .before .before .before .before .before .before .before .before .before .before .args .head .now) (c .before .before .before .before .before .before .before .before .before .before .before .before .before .before .before .before .before .before .before .before .before .before .args .id .now) (c .before .before .before .before .before .reach3 .ensures) (not-false _ (c .before .before .before .if3 .left)))) ∙ (sym (c .before .before .meeting .ensures _ _) ∙ c .enum-told2 .given .1)))
+returns-5 c =
+    let at-start = c .before .before .before .before .before .before .before .before .before .before .before .before .before .before .before .before .before .before .before .before .before .before in
+    answered (passed (c .before .before .before .before .before .before .before .before .before .before .before .before)) Refused (lca-lost-1 _ _ _ _ _ (sym (ended-there _ _ (reached-vertex (at-start .args .parent .now) (at-start .args .depth .now) (at-start .args .head .now) (at-start .args .id .now) (c .before .before .before .before .before .before .before .before .reach2 .ensures) (not-false _ (c .before .before .before .before .before .before .if2 .left))) (reached-vertex (at-start .args .parent .now) (at-start .args .depth .now) (at-start .args .head .now) (at-start .args .id .now) (c .before .before .before .before .before .reach3 .ensures) (not-false _ (c .before .before .before .if3 .left)))) ∙ (sym (c .before .before .meeting .ensures _ _) ∙ c .enum-told2 .given .1)))
 
 meeting-requires-2 : tie.Need-meeting-requires-2
-meeting-requires-2 c κs = climbs-from (c .before .before .before .before .before .before .before .before .before .before .before .before .before .before .before .before .before .before .before .before .before .before .before .args .parent .now) (c .before .before .before .before .before .before .before .before .before .before .before .before .before .before .before .before .before .before .before .before .before .before .before .args .depth .now) (c .before .before .before .before .before .before .before .before .before .before .before .before .before .before .before .before .before .before .before .before .before .before .before .args .head .now) (c .before .before .before .before .before .before .before .before .before .before .before .before .before .before .before .before .before .before .before .before .before .before .before .args .id .now) (c .before .before .before .before .before .before .before .before .before .before .before .before .reach .ensures) (not-false _ (c .before .before .before .before .before .before .before .before .before .before .if1 .left)) (c .before .before .before .before .before .before .before .before .before .reach2 .ensures) (not-false _ (c .before .before .before .before .before .before .before .if2 .left)) (lengths (passed (c .before .before .before .before .before .before .before .before .before .before .before .before .before)) .even) (few-parent (lengths (passed (c .before .before .before .before .before .before .before .before .before .before .before .before .before)) .few))
+meeting-requires-2 c κs =
+    let at-start = c .before .before .before .before .before .before .before .before .before .before .before .before .before .before .before .before .before .before .before .before .before .before .before in
+    climbs-from (at-start .args .parent .now) (at-start .args .depth .now) (at-start .args .head .now) (at-start .args .id .now) (c .before .before .before .before .before .before .before .before .before .before .before .before .reach .ensures) (not-false _ (c .before .before .before .before .before .before .before .before .before .before .if1 .left)) (c .before .before .before .before .before .before .before .before .before .reach2 .ensures) (not-false _ (c .before .before .before .before .before .before .before .if2 .left)) (lengths (passed (c .before .before .before .before .before .before .before .before .before .before .before .before .before)) .even) (few-parent (lengths (passed (c .before .before .before .before .before .before .before .before .before .before .before .before .before)) .few))
 
 enum-known-b : tie.Need-enum-known-b
 enum-known-b c = search needs
@@ -80,10 +94,16 @@ enum-told-3 : tie.Need-enum-told-3
 enum-told-3 c = search needs
 
 returns-6 : tie.Need-returns-6
-returns-6 c = answered (passed (c .before .before .before .before .before .before .before .before .before .before .before .before .before .before .before .before)) Refused (lca-lost-2 _ _ _ _ _ (sym (ended-there _ _ (reached-vertex (c .before .before .before .before .before .before .before .before .before .before .before .before .before .before .before .before .before .before .before .before .before .before .before .before .before .before .args .parent .now) (c .before .before .before .before .before .before .before .before .before .before .before .before .before .before .before .before .before .before .before .before .before .before .before .before .before .before .args .depth .now) (c .before .before .before .before .before .before .before .before .before .before .before .before .before .before .before .before .before .before .before .before .before .before .before .before .before .before .args .head .now) (c .before .before .before .before .before .before .before .before .before .before .before .before .before .before .before .before .before .before .before .before .before .before .before .before .before .before .args .id .now) (c .before .before .before .before .before .before .before .before .before .before .before .before .reach2 .ensures) (not-false _ (c .before .before .before .before .before .before .before .before .before .before .if2 .left))) (reached-vertex (c .before .before .before .before .before .before .before .before .before .before .before .before .before .before .before .before .before .before .before .before .before .before .before .before .before .before .args .parent .now) (c .before .before .before .before .before .before .before .before .before .before .before .before .before .before .before .before .before .before .before .before .before .before .before .before .before .before .args .depth .now) (c .before .before .before .before .before .before .before .before .before .before .before .before .before .before .before .before .before .before .before .before .before .before .before .before .before .before .args .head .now) (c .before .before .before .before .before .before .before .before .before .before .before .before .before .before .before .before .before .before .before .before .before .before .before .before .before .before .args .id .now) (c .before .before .before .before .before .before .before .before .before .reach3 .ensures) (not-false _ (c .before .before .before .before .before .before .before .if3 .left)))) ∙ (sym (c .before .before .before .before .before .before .meeting .ensures _ _) ∙ c .before .before .before .before .a .given .1)) (sym (ended-there _ _ (reached-vertex (c .before .before .before .before .before .before .before .before .before .before .before .before .before .before .before .before .before .before .before .before .before .before .before .before .before .before .args .parent .now) (c .before .before .before .before .before .before .before .before .before .before .before .before .before .before .before .before .before .before .before .before .before .before .before .before .before .before .args .depth .now) (c .before .before .before .before .before .before .before .before .before .before .before .before .before .before .before .before .before .before .before .before .before .before .before .before .before .before .args .head .now) (c .before .before .before .before .before .before .before .before .before .before .before .before .before .before .before .before .before .before .before .before .before .before .before .before .before .before .args .id .now) (c .before .before .before .before .before .before .before .before .before .before .before .before .before .before .before .reach .ensures) (not-false _ (c .before .before .before .before .before .before .before .before .before .before .before .before .before .if1 .left))) (reached-vertex (c .before .before .before .before .before .before .before .before .before .before .before .before .before .before .before .before .before .before .before .before .before .before .before .before .before .before .args .parent .now) (c .before .before .before .before .before .before .before .before .before .before .before .before .before .before .before .before .before .before .before .before .before .before .before .before .before .before .args .depth .now) (c .before .before .before .before .before .before .before .before .before .before .before .before .before .before .before .before .before .before .before .before .before .before .before .before .before .before .args .head .now) (c .before .before .before .before .before .before .before .before .before .before .before .before .before .before .before .before .before .before .before .before .before .before .before .before .before .before .args .id .now) (c .before .before .before .before .before .before .before .before .before .before .before .before .reach2 .ensures) (not-false _ (c .before .before .before .before .before .before .before .before .before .before .if2 .left)))) ∙ (sym (c .before .before .meeting2 .ensures _ _) ∙ c .enum-told3 .given .1)))
+returns-6 c =
+    let at-start = c .before .before .before .before .before .before .before .before .before .before .before .before .before .before .before .before .before .before .before .before .before .before .before .before .before .before in
+    let at-reach2 = c .before .before .before .before .before .before .before .before .before .before .before .before .reach2 in
+    let at-if2 = c .before .before .before .before .before .before .before .before .before .before .if2 in
+    answered (passed (c .before .before .before .before .before .before .before .before .before .before .before .before .before .before .before .before)) Refused (lca-lost-2 _ _ _ _ _ (sym (ended-there _ _ (reached-vertex (at-start .args .parent .now) (at-start .args .depth .now) (at-start .args .head .now) (at-start .args .id .now) (at-reach2 .ensures) (not-false _ (at-if2 .left))) (reached-vertex (at-start .args .parent .now) (at-start .args .depth .now) (at-start .args .head .now) (at-start .args .id .now) (c .before .before .before .before .before .before .before .before .before .reach3 .ensures) (not-false _ (c .before .before .before .before .before .before .before .if3 .left)))) ∙ (sym (c .before .before .before .before .before .before .meeting .ensures _ _) ∙ c .before .before .before .before .a .given .1)) (sym (ended-there _ _ (reached-vertex (at-start .args .parent .now) (at-start .args .depth .now) (at-start .args .head .now) (at-start .args .id .now) (c .before .before .before .before .before .before .before .before .before .before .before .before .before .before .before .reach .ensures) (not-false _ (c .before .before .before .before .before .before .before .before .before .before .before .before .before .if1 .left))) (reached-vertex (at-start .args .parent .now) (at-start .args .depth .now) (at-start .args .head .now) (at-start .args .id .now) (at-reach2 .ensures) (not-false _ (at-if2 .left)))) ∙ (sym (c .before .before .meeting2 .ensures _ _) ∙ c .enum-told3 .given .1)))
 
 meeting-requires-3 : tie.Need-meeting-requires-3
-meeting-requires-3 c κs = climbs-from (c .before .before .before .before .before .before .before .before .before .before .before .before .before .before .before .before .before .before .before .before .before .before .before .before .before .before .before .args .parent .now) (c .before .before .before .before .before .before .before .before .before .before .before .before .before .before .before .before .before .before .before .before .before .before .before .before .before .before .before .args .depth .now) (c .before .before .before .before .before .before .before .before .before .before .before .before .before .before .before .before .before .before .before .before .before .before .before .before .before .before .before .args .head .now) (c .before .before .before .before .before .before .before .before .before .before .before .before .before .before .before .before .before .before .before .before .before .before .before .before .before .before .before .args .id .now) (c .before .before .before .before .before .before .before .before .before .before .before .before .before .before .before .before .reach .ensures) (not-false _ (c .before .before .before .before .before .before .before .before .before .before .before .before .before .before .if1 .left)) (c .before .before .before .before .before .before .before .before .before .before .reach3 .ensures) (not-false _ (c .before .before .before .before .before .before .before .before .if3 .left)) (lengths (passed (c .before .before .before .before .before .before .before .before .before .before .before .before .before .before .before .before .before)) .even) (few-parent (lengths (passed (c .before .before .before .before .before .before .before .before .before .before .before .before .before .before .before .before .before)) .few))
+meeting-requires-3 c κs =
+    let at-start = c .before .before .before .before .before .before .before .before .before .before .before .before .before .before .before .before .before .before .before .before .before .before .before .before .before .before .before in
+    climbs-from (at-start .args .parent .now) (at-start .args .depth .now) (at-start .args .head .now) (at-start .args .id .now) (c .before .before .before .before .before .before .before .before .before .before .before .before .before .before .before .before .reach .ensures) (not-false _ (c .before .before .before .before .before .before .before .before .before .before .before .before .before .before .if1 .left)) (c .before .before .before .before .before .before .before .before .before .before .reach3 .ensures) (not-false _ (c .before .before .before .before .before .before .before .before .if3 .left)) (lengths (passed (c .before .before .before .before .before .before .before .before .before .before .before .before .before .before .before .before .before)) .even) (few-parent (lengths (passed (c .before .before .before .before .before .before .before .before .before .before .before .before .before .before .before .before .before)) .few))
 
 enum-known-c : tie.Need-enum-known-c
 enum-known-c c = search needs
@@ -92,13 +112,29 @@ enum-told-4 : tie.Need-enum-told-4
 enum-told-4 c = search needs
 
 returns-7 : tie.Need-returns-7
-returns-7 c = answered (passed (c .before .before .before .before .before .before .before .before .before .before .before .before .before .before .before .before .before .before .before .before)) Refused (lca-lost-3 _ _ _ _ _ (sym (ended-there _ _ (reached-vertex (c .before .before .before .before .before .before .before .before .before .before .before .before .before .before .before .before .before .before .before .before .before .before .before .before .before .before .before .before .before .before .args .parent .now) (c .before .before .before .before .before .before .before .before .before .before .before .before .before .before .before .before .before .before .before .before .before .before .before .before .before .before .before .before .before .before .args .depth .now) (c .before .before .before .before .before .before .before .before .before .before .before .before .before .before .before .before .before .before .before .before .before .before .before .before .before .before .before .before .before .before .args .head .now) (c .before .before .before .before .before .before .before .before .before .before .before .before .before .before .before .before .before .before .before .before .before .before .before .before .before .before .before .before .before .before .args .id .now) (c .before .before .before .before .before .before .before .before .before .before .before .before .before .before .before .before .reach2 .ensures) (not-false _ (c .before .before .before .before .before .before .before .before .before .before .before .before .before .before .if2 .left))) (reached-vertex (c .before .before .before .before .before .before .before .before .before .before .before .before .before .before .before .before .before .before .before .before .before .before .before .before .before .before .before .before .before .before .args .parent .now) (c .before .before .before .before .before .before .before .before .before .before .before .before .before .before .before .before .before .before .before .before .before .before .before .before .before .before .before .before .before .before .args .depth .now) (c .before .before .before .before .before .before .before .before .before .before .before .before .before .before .before .before .before .before .before .before .before .before .before .before .before .before .before .before .before .before .args .head .now) (c .before .before .before .before .before .before .before .before .before .before .before .before .before .before .before .before .before .before .before .before .before .before .before .before .before .before .before .before .before .before .args .id .now) (c .before .before .before .before .before .before .before .before .before .before .before .before .before .reach3 .ensures) (not-false _ (c .before .before .before .before .before .before .before .before .before .before .before .if3 .left)))) ∙ (sym (c .before .before .before .before .before .before .before .before .before .before .meeting .ensures _ _) ∙ c .before .before .before .before .before .before .before .before .a .given .1)) (sym (ended-there _ _ (reached-vertex (c .before .before .before .before .before .before .before .before .before .before .before .before .before .before .before .before .before .before .before .before .before .before .before .before .before .before .before .before .before .before .args .parent .now) (c .before .before .before .before .before .before .before .before .before .before .before .before .before .before .before .before .before .before .before .before .before .before .before .before .before .before .before .before .before .before .args .depth .now) (c .before .before .before .before .before .before .before .before .before .before .before .before .before .before .before .before .before .before .before .before .before .before .before .before .before .before .before .before .before .before .args .head .now) (c .before .before .before .before .before .before .before .before .before .before .before .before .before .before .before .before .before .before .before .before .before .before .before .before .before .before .before .before .before .before .args .id .now) (c .before .before .before .before .before .before .before .before .before .before .before .before .before .before .before .before .before .before .before .reach .ensures) (not-false _ (c .before .before .before .before .before .before .before .before .before .before .before .before .before .before .before .before .before .if1 .left))) (reached-vertex (c .before .before .before .before .before .before .before .before .before .before .before .before .before .before .before .before .before .before .before .before .before .before .before .before .before .before .before .before .before .before .args .parent .now) (c .before .before .before .before .before .before .before .before .before .before .before .before .before .before .before .before .before .before .before .before .before .before .before .before .before .before .before .before .before .before .args .depth .now) (c .before .before .before .before .before .before .before .before .before .before .before .before .before .before .before .before .before .before .before .before .before .before .before .before .before .before .before .before .before .before .args .head .now) (c .before .before .before .before .before .before .before .before .before .before .before .before .before .before .before .before .before .before .before .before .before .before .before .before .before .before .before .before .before .before .args .id .now) (c .before .before .before .before .before .before .before .before .before .before .before .before .before .before .before .before .reach2 .ensures) (not-false _ (c .before .before .before .before .before .before .before .before .before .before .before .before .before .before .if2 .left)))) ∙ (sym (c .before .before .before .before .before .before .meeting2 .ensures _ _) ∙ c .before .before .before .before .b .given .1)) (sym (ended-there _ _ (reached-vertex (c .before .before .before .before .before .before .before .before .before .before .before .before .before .before .before .before .before .before .before .before .before .before .before .before .before .before .before .before .before .before .args .parent .now) (c .before .before .before .before .before .before .before .before .before .before .before .before .before .before .before .before .before .before .before .before .before .before .before .before .before .before .before .before .before .before .args .depth .now) (c .before .before .before .before .before .before .before .before .before .before .before .before .before .before .before .before .before .before .before .before .before .before .before .before .before .before .before .before .before .before .args .head .now) (c .before .before .before .before .before .before .before .before .before .before .before .before .before .before .before .before .before .before .before .before .before .before .before .before .before .before .before .before .before .before .args .id .now) (c .before .before .before .before .before .before .before .before .before .before .before .before .before .before .before .before .before .before .before .reach .ensures) (not-false _ (c .before .before .before .before .before .before .before .before .before .before .before .before .before .before .before .before .before .if1 .left))) (reached-vertex (c .before .before .before .before .before .before .before .before .before .before .before .before .before .before .before .before .before .before .before .before .before .before .before .before .before .before .before .before .before .before .args .parent .now) (c .before .before .before .before .before .before .before .before .before .before .before .before .before .before .before .before .before .before .before .before .before .before .before .before .before .before .before .before .before .before .args .depth .now) (c .before .before .before .before .before .before .before .before .before .before .before .before .before .before .before .before .before .before .before .before .before .before .before .before .before .before .before .before .before .before .args .head .now) (c .before .before .before .before .before .before .before .before .before .before .before .before .before .before .before .before .before .before .before .before .before .before .before .before .before .before .before .before .before .before .args .id .now) (c .before .before .before .before .before .before .before .before .before .before .before .before .before .reach3 .ensures) (not-false _ (c .before .before .before .before .before .before .before .before .before .before .before .if3 .left)))) ∙ (sym (c .before .before .meeting3 .ensures _ _) ∙ c .enum-told4 .given .1)))
+returns-7 c =
+    let at-start = c .before .before .before .before .before .before .before .before .before .before .before .before .before .before .before .before .before .before .before .before .before .before .before .before .before .before .before .before .before .before in
+    let at-reach = c .before .before .before .before .before .before .before .before .before .before .before .before .before .before .before .before .before .before .before .reach in
+    let at-if1 = c .before .before .before .before .before .before .before .before .before .before .before .before .before .before .before .before .before .if1 in
+    let at-reach2 = c .before .before .before .before .before .before .before .before .before .before .before .before .before .before .before .before .reach2 in
+    let at-if2 = c .before .before .before .before .before .before .before .before .before .before .before .before .before .before .if2 in
+    let at-reach3 = c .before .before .before .before .before .before .before .before .before .before .before .before .before .reach3 in
+    let at-if3 = c .before .before .before .before .before .before .before .before .before .before .before .if3 in
+    answered (passed (c .before .before .before .before .before .before .before .before .before .before .before .before .before .before .before .before .before .before .before .before)) Refused (lca-lost-3 _ _ _ _ _ (sym (ended-there _ _ (reached-vertex (at-start .args .parent .now) (at-start .args .depth .now) (at-start .args .head .now) (at-start .args .id .now) (at-reach2 .ensures) (not-false _ (at-if2 .left))) (reached-vertex (at-start .args .parent .now) (at-start .args .depth .now) (at-start .args .head .now) (at-start .args .id .now) (at-reach3 .ensures) (not-false _ (at-if3 .left)))) ∙ (sym (c .before .before .before .before .before .before .before .before .before .before .meeting .ensures _ _) ∙ c .before .before .before .before .before .before .before .before .a .given .1)) (sym (ended-there _ _ (reached-vertex (at-start .args .parent .now) (at-start .args .depth .now) (at-start .args .head .now) (at-start .args .id .now) (at-reach .ensures) (not-false _ (at-if1 .left))) (reached-vertex (at-start .args .parent .now) (at-start .args .depth .now) (at-start .args .head .now) (at-start .args .id .now) (at-reach2 .ensures) (not-false _ (at-if2 .left)))) ∙ (sym (c .before .before .before .before .before .before .meeting2 .ensures _ _) ∙ c .before .before .before .before .b .given .1)) (sym (ended-there _ _ (reached-vertex (at-start .args .parent .now) (at-start .args .depth .now) (at-start .args .head .now) (at-start .args .id .now) (at-reach .ensures) (not-false _ (at-if1 .left))) (reached-vertex (at-start .args .parent .now) (at-start .args .depth .now) (at-start .args .head .now) (at-start .args .id .now) (at-reach3 .ensures) (not-false _ (at-if3 .left)))) ∙ (sym (c .before .before .meeting3 .ensures _ _) ∙ c .enum-told4 .given .1)))
 
 deepest-requires : tie.Need-deepest-requires
 deepest-requires c κs = search needs
 
 returns-8 : tie.Need-returns-8
-returns-8 c = answered (passed (c .before .before .before .before .before .before .before .before .before .before .before .before .before .before .before .before .before .before .before .before .before .before)) Refused (lca-met _ _ _ _ _ (sym (ended-there _ _ (reached-vertex (c .before .before .before .before .before .before .before .before .before .before .before .before .before .before .before .before .before .before .before .before .before .before .before .before .before .before .before .before .before .before .before .before .args .parent .now) (c .before .before .before .before .before .before .before .before .before .before .before .before .before .before .before .before .before .before .before .before .before .before .before .before .before .before .before .before .before .before .before .before .args .depth .now) (c .before .before .before .before .before .before .before .before .before .before .before .before .before .before .before .before .before .before .before .before .before .before .before .before .before .before .before .before .before .before .before .before .args .head .now) (c .before .before .before .before .before .before .before .before .before .before .before .before .before .before .before .before .before .before .before .before .before .before .before .before .before .before .before .before .before .before .before .before .args .id .now) (c .before .before .before .before .before .before .before .before .before .before .before .before .before .before .before .before .before .before .reach2 .ensures) (not-false _ (c .before .before .before .before .before .before .before .before .before .before .before .before .before .before .before .before .if2 .left))) (reached-vertex (c .before .before .before .before .before .before .before .before .before .before .before .before .before .before .before .before .before .before .before .before .before .before .before .before .before .before .before .before .before .before .before .before .args .parent .now) (c .before .before .before .before .before .before .before .before .before .before .before .before .before .before .before .before .before .before .before .before .before .before .before .before .before .before .before .before .before .before .before .before .args .depth .now) (c .before .before .before .before .before .before .before .before .before .before .before .before .before .before .before .before .before .before .before .before .before .before .before .before .before .before .before .before .before .before .before .before .args .head .now) (c .before .before .before .before .before .before .before .before .before .before .before .before .before .before .before .before .before .before .before .before .before .before .before .before .before .before .before .before .before .before .before .before .args .id .now) (c .before .before .before .before .before .before .before .before .before .before .before .before .before .before .before .reach3 .ensures) (not-false _ (c .before .before .before .before .before .before .before .before .before .before .before .before .before .if3 .left)))) ∙ (sym (c .before .before .before .before .before .before .before .before .before .before .before .before .meeting .ensures _ _) ∙ c .before .before .before .before .before .before .before .before .before .before .a .given .1)) (sym (ended-there _ _ (reached-vertex (c .before .before .before .before .before .before .before .before .before .before .before .before .before .before .before .before .before .before .before .before .before .before .before .before .before .before .before .before .before .before .before .before .args .parent .now) (c .before .before .before .before .before .before .before .before .before .before .before .before .before .before .before .before .before .before .before .before .before .before .before .before .before .before .before .before .before .before .before .before .args .depth .now) (c .before .before .before .before .before .before .before .before .before .before .before .before .before .before .before .before .before .before .before .before .before .before .before .before .before .before .before .before .before .before .before .before .args .head .now) (c .before .before .before .before .before .before .before .before .before .before .before .before .before .before .before .before .before .before .before .before .before .before .before .before .before .before .before .before .before .before .before .before .args .id .now) (c .before .before .before .before .before .before .before .before .before .before .before .before .before .before .before .before .before .before .before .before .before .reach .ensures) (not-false _ (c .before .before .before .before .before .before .before .before .before .before .before .before .before .before .before .before .before .before .before .if1 .left))) (reached-vertex (c .before .before .before .before .before .before .before .before .before .before .before .before .before .before .before .before .before .before .before .before .before .before .before .before .before .before .before .before .before .before .before .before .args .parent .now) (c .before .before .before .before .before .before .before .before .before .before .before .before .before .before .before .before .before .before .before .before .before .before .before .before .before .before .before .before .before .before .before .before .args .depth .now) (c .before .before .before .before .before .before .before .before .before .before .before .before .before .before .before .before .before .before .before .before .before .before .before .before .before .before .before .before .before .before .before .before .args .head .now) (c .before .before .before .before .before .before .before .before .before .before .before .before .before .before .before .before .before .before .before .before .before .before .before .before .before .before .before .before .before .before .before .before .args .id .now) (c .before .before .before .before .before .before .before .before .before .before .before .before .before .before .before .before .before .before .reach2 .ensures) (not-false _ (c .before .before .before .before .before .before .before .before .before .before .before .before .before .before .before .before .if2 .left)))) ∙ (sym (c .before .before .before .before .before .before .before .before .meeting2 .ensures _ _) ∙ c .before .before .before .before .before .before .b .given .1)) (sym (ended-there _ _ (reached-vertex (c .before .before .before .before .before .before .before .before .before .before .before .before .before .before .before .before .before .before .before .before .before .before .before .before .before .before .before .before .before .before .before .before .args .parent .now) (c .before .before .before .before .before .before .before .before .before .before .before .before .before .before .before .before .before .before .before .before .before .before .before .before .before .before .before .before .before .before .before .before .args .depth .now) (c .before .before .before .before .before .before .before .before .before .before .before .before .before .before .before .before .before .before .before .before .before .before .before .before .before .before .before .before .before .before .before .before .args .head .now) (c .before .before .before .before .before .before .before .before .before .before .before .before .before .before .before .before .before .before .before .before .before .before .before .before .before .before .before .before .before .before .before .before .args .id .now) (c .before .before .before .before .before .before .before .before .before .before .before .before .before .before .before .before .before .before .before .before .before .reach .ensures) (not-false _ (c .before .before .before .before .before .before .before .before .before .before .before .before .before .before .before .before .before .before .before .if1 .left))) (reached-vertex (c .before .before .before .before .before .before .before .before .before .before .before .before .before .before .before .before .before .before .before .before .before .before .before .before .before .before .before .before .before .before .before .before .args .parent .now) (c .before .before .before .before .before .before .before .before .before .before .before .before .before .before .before .before .before .before .before .before .before .before .before .before .before .before .before .before .before .before .before .before .args .depth .now) (c .before .before .before .before .before .before .before .before .before .before .before .before .before .before .before .before .before .before .before .before .before .before .before .before .before .before .before .before .before .before .before .before .args .head .now) (c .before .before .before .before .before .before .before .before .before .before .before .before .before .before .before .before .before .before .before .before .before .before .before .before .before .before .before .before .before .before .before .before .args .id .now) (c .before .before .before .before .before .before .before .before .before .before .before .before .before .before .before .reach3 .ensures) (not-false _ (c .before .before .before .before .before .before .before .before .before .before .before .before .before .if3 .left)))) ∙ (sym (c .before .before .before .before .meeting3 .ensures _ _) ∙ c .before .before .c .given .1)) refl (c .deepest .ensures _ _ _ refl))
+returns-8 c =
+    let at-start = c .before .before .before .before .before .before .before .before .before .before .before .before .before .before .before .before .before .before .before .before .before .before .before .before .before .before .before .before .before .before .before .before in
+    let at-reach = c .before .before .before .before .before .before .before .before .before .before .before .before .before .before .before .before .before .before .before .before .before .reach in
+    let at-if1 = c .before .before .before .before .before .before .before .before .before .before .before .before .before .before .before .before .before .before .before .if1 in
+    let at-reach2 = c .before .before .before .before .before .before .before .before .before .before .before .before .before .before .before .before .before .before .reach2 in
+    let at-if2 = c .before .before .before .before .before .before .before .before .before .before .before .before .before .before .before .before .if2 in
+    let at-reach3 = c .before .before .before .before .before .before .before .before .before .before .before .before .before .before .before .reach3 in
+    let at-if3 = c .before .before .before .before .before .before .before .before .before .before .before .before .before .if3 in
+    answered (passed (c .before .before .before .before .before .before .before .before .before .before .before .before .before .before .before .before .before .before .before .before .before .before)) Refused (lca-met _ _ _ _ _ (sym (ended-there _ _ (reached-vertex (at-start .args .parent .now) (at-start .args .depth .now) (at-start .args .head .now) (at-start .args .id .now) (at-reach2 .ensures) (not-false _ (at-if2 .left))) (reached-vertex (at-start .args .parent .now) (at-start .args .depth .now) (at-start .args .head .now) (at-start .args .id .now) (at-reach3 .ensures) (not-false _ (at-if3 .left)))) ∙ (sym (c .before .before .before .before .before .before .before .before .before .before .before .before .meeting .ensures _ _) ∙ c .before .before .before .before .before .before .before .before .before .before .a .given .1)) (sym (ended-there _ _ (reached-vertex (at-start .args .parent .now) (at-start .args .depth .now) (at-start .args .head .now) (at-start .args .id .now) (at-reach .ensures) (not-false _ (at-if1 .left))) (reached-vertex (at-start .args .parent .now) (at-start .args .depth .now) (at-start .args .head .now) (at-start .args .id .now) (at-reach2 .ensures) (not-false _ (at-if2 .left)))) ∙ (sym (c .before .before .before .before .before .before .before .before .meeting2 .ensures _ _) ∙ c .before .before .before .before .before .before .b .given .1)) (sym (ended-there _ _ (reached-vertex (at-start .args .parent .now) (at-start .args .depth .now) (at-start .args .head .now) (at-start .args .id .now) (at-reach .ensures) (not-false _ (at-if1 .left))) (reached-vertex (at-start .args .parent .now) (at-start .args .depth .now) (at-start .args .head .now) (at-start .args .id .now) (at-reach3 .ensures) (not-false _ (at-if3 .left)))) ∙ (sym (c .before .before .before .before .meeting3 .ensures _ _) ∙ c .before .before .c .given .1)) refl (c .deepest .ensures _ _ _ refl))
 
 pub lca-spec : {M : Type 1} → statement M
 lca-spec =

@@ -19,19 +19,27 @@ enum-told : tie.Need-enum-told
 enum-told c = search needs
 
 returns : tie.Need-returns
-returns c = λ o s. sym (ap endOf (climbed-off (c .before .before .before .before .before .before .before .args .parent .now) (c .before .before .before .before .before .before .before .args .depth .now) (c .before .before .before .before .before .before .before .args .head .now) (c .before .before .before .before .before .before .before .args .id .now) (c .before .before .climb-to-lca .ensures) (c .enum-told .given .1) o s))
+returns c =
+    let at-start = c .before .before .before .before .before .before .before in
+    λ o s. sym (ap endOf (climbed-off (at-start .args .parent .now) (at-start .args .depth .now) (at-start .args .head .now) (at-start .args .id .now) (c .before .before .climb-to-lca .ensures) (c .enum-told .given .1) o s))
 
 hangs-requires : tie.Need-hangs-requires
-hangs-requires c κs = record { depth = c .before .before .before .before .before .before .before .before .pre .even .depth; id = c .before .before .before .before .before .before .before .before .pre .even .id }
+hangs-requires c κs =
+    let at-start = c .before .before .before .before .before .before .before .before in
+    record { depth = at-start .pre .even .depth; id = at-start .pre .even .id }
 
 returns-2 : tie.Need-returns-2
-returns-2 c = λ o s. sym (ap endOf (climbed-unhung (c .before .before .before .before .before .before .before .before .before .before .args .parent .now) (c .before .before .before .before .before .before .before .before .before .before .args .depth .now) (c .before .before .before .before .before .before .before .before .before .before .args .head .now) (c .before .before .before .before .before .before .before .before .before .before .args .id .now) (c .before .before .before .before .before .climb-to-lca .ensures) (c .before .before .before .c .given .1) (sym (c .before .hangs .ensures) ∙ not-true _ (c .if1 .taken)) o s))
+returns-2 c =
+    let at-start = c .before .before .before .before .before .before .before .before .before .before in
+    λ o s. sym (ap endOf (climbed-unhung (at-start .args .parent .now) (at-start .args .depth .now) (at-start .args .head .now) (at-start .args .id .now) (c .before .before .before .before .before .climb-to-lca .ensures) (c .before .before .before .c .given .1) (sym (c .before .hangs .ensures) ∙ not-true _ (c .if1 .taken)) o s))
 
 ancestor-requires : tie.Need-ancestor-requires
 ancestor-requires c κs = search needs
 
 returns-3 : tie.Need-returns-3
-returns-3 c = λ o s. ap (λ (w : Place). At (candidateOf w)) (c .ancestor .ensures) ∙ sym (ap endOf (climbed-on (c .before .before .before .before .before .before .before .before .before .before .before .args .parent .now) (c .before .before .before .before .before .before .before .before .before .before .before .args .depth .now) (c .before .before .before .before .before .before .before .before .before .before .before .args .head .now) (c .before .before .before .before .before .before .before .before .before .before .before .args .id .now) (c .before .before .before .before .before .before .climb-to-lca .ensures) (c .before .before .before .before .c .given .1) (sym (c .before .before .hangs .ensures) ∙ not-false _ (c .before .if1 .left)) o s))
+returns-3 c =
+    let at-start = c .before .before .before .before .before .before .before .before .before .before .before in
+    λ o s. ap (λ (w : Place). At (candidateOf w)) (c .ancestor .ensures) ∙ sym (ap endOf (climbed-on (at-start .args .parent .now) (at-start .args .depth .now) (at-start .args .head .now) (at-start .args .id .now) (c .before .before .before .before .before .before .climb-to-lca .ensures) (c .before .before .before .before .c .given .1) (sym (c .before .before .hangs .ensures) ∙ not-false _ (c .before .if1 .left)) o s))
 
 pub meeting-spec : {M : Type 1} → statement M
 meeting-spec =

@@ -47,7 +47,9 @@ cast-count : tie.Need-cast-count
 cast-count c = fits-widen tt (c .shared-slice-known7 .given _)
 
 size-sound-requires : tie.Need-size-sound-requires
-size-sound-requires c κs = omega (arith, stood-placed _ _ _ (sym (c .before .before .before .before .before .before .before .pre .on-b [] [])) .id-below, c .before .before .before .before .before .before .before .good .0 .1, (c .shared-slice-known7 .given (c .before .before .before .before .before .before .before .args .b .vertex)))
+size-sound-requires c κs =
+    let at-start = c .before .before .before .before .before .before .before in
+    omega (arith, stood-placed _ _ _ (sym (at-start .pre .on-b [] [])) .id-below, at-start .good .0 .1, (c .shared-slice-known7 .given (at-start .args .b .vertex)))
 
 returns : tie.Need-returns
 returns c = size-unsized _ (lent (c .before .before .before .before .before .before .before .before .before)) (on-a (c .before .before .before .before .before .before .before .before .before)) (on-b (c .before .before .before .before .before .before .before .before .before)) (sym (c .before .size-sound .ensures) ∙ not-true _ (c .if1 .taken))
@@ -56,7 +58,9 @@ returns-2 : tie.Need-returns-2
 returns-2 c = size-before _ (lent (c .before .before .before .before .before .before .before .before .before .before .before .before)) (on-a (c .before .before .before .before .before .before .before .before .before .before .before .before)) (on-b (c .before .before .before .before .before .before .before .before .before .before .before .before)) (sym (c .before .before .before .before .size-sound .ensures) ∙ not-false _ (c .before .before .before .if1 .left)) (c .if2 .taken)
 
 add-if3 : tie.Need-add-if3
-add-if3 c = omega (arith, stood-placed _ _ _ (sym (c .before .before .before .before .before .before .before .before .before .before .before .before .before .pre .on-b [] [])) .id-below, c .before .before .before .before .before .before .before .before .before .before .before .before .before .good .0 .1, (c .before .before .before .before .before .before .shared-slice-known7 .given (c .before .before .before .before .before .before .before .before .before .before .before .before .before .args .b .vertex)))
+add-if3 c =
+    let at-start = c .before .before .before .before .before .before .before .before .before .before .before .before .before in
+    omega (arith, stood-placed _ _ _ (sym (at-start .pre .on-b [] [])) .id-below, at-start .good .0 .1, (c .before .before .before .before .before .before .shared-slice-known7 .given (at-start .args .b .vertex)))
 
 returns-3 : tie.Need-returns-3
 returns-3 c = size-after _ (lent (c .before .before .before .before .before .before .before .before .before .before .before .before .before .before .before)) (on-a (c .before .before .before .before .before .before .before .before .before .before .before .before .before .before .before)) (on-b (c .before .before .before .before .before .before .before .before .before .before .before .before .before .before .before)) (sym (c .before .before .before .before .before .before .before .size-sound .ensures) ∙ not-false _ (c .before .before .before .before .before .before .if1 .left)) (c .before .before .before .if2 .left) (c .if3 .taken)
@@ -71,7 +75,9 @@ sub-steps-2 : tie.Need-sub-steps-2
 sub-steps-2 c = search needs
 
 ancestor-from-requires : tie.Need-ancestor-from-requires
-ancestor-from-requires c κs = record { even = c .before .before .before .before .before .before .before .before .before .before .before .before .before .before .before .before .before .before .before .before .pre .even; order = c .before .before .before .before .before .before .before .before .before .before .before .before .before .before .before .before .before .before .before .before .pre .order; seat = seat-a (c .before .before .before .before .before .before .before .before .before .before .before .before .before .before .before .before .before .before .before .before) }
+ancestor-from-requires c κs =
+    let at-start = c .before .before .before .before .before .before .before .before .before .before .before .before .before .before .before .before .before .before .before .before in
+    record { even = at-start .pre .even; order = at-start .pre .order; seat = seat-a (c .before .before .before .before .before .before .before .before .before .before .before .before .before .before .before .before .before .before .before .before) }
 
 enum-known-found : tie.Need-enum-known-found
 enum-known-found c = search needs
@@ -83,10 +89,14 @@ returns-5 : tie.Need-returns-5
 returns-5 c = left-refused _ (lent (c .before .before .before .before .before .before .before .before .before .before .before .before .before .before .before .before .before .before .before .before .before .before .before)) (c .enum-told .given .1) ∙ (ap (withoutChild _ (lent (c .before .before .before .before .before .before .before .before .before .before .before .before .before .before .before .before .before .before .before .before .before .before .before))) (c .before .before .ancestor-from .ensures _ ∙ risen (c .before .before .before .before .before .before .before .before .before .before .before .before .before .before .before .before .before .before .before .before .before .before .before) _) ∙ size-inside _ (lent (c .before .before .before .before .before .before .before .before .before .before .before .before .before .before .before .before .before .before .before .before .before .before .before)) (on-a (c .before .before .before .before .before .before .before .before .before .before .before .before .before .before .before .before .before .before .before .before .before .before .before)) (on-b (c .before .before .before .before .before .before .before .before .before .before .before .before .before .before .before .before .before .before .before .before .before .before .before)) (sym (c .before .before .before .before .before .before .before .before .before .before .before .before .before .before .before .size-sound .ensures) ∙ not-false _ (c .before .before .before .before .before .before .before .before .before .before .before .before .before .before .if1 .left)) (c .before .before .before .before .before .before .before .before .before .before .before .if2 .left) (c .before .before .before .before .before .before .before .before .if3 .left) (c .before .before .before .before .before .if4 .left))
 
 without-child-requires : tie.Need-without-child-requires
-without-child-requires c κs = record { id = c .before .before .before .before .before .before .before .before .before .before .before .before .before .before .before .before .before .before .before .before .before .before .before .before .pre .even .id; size = c .before .before .before .before .before .before .before .before .before .before .before .before .before .before .before .before .before .before .before .before .before .before .before .before .pre .size; vertex = found-below (log2 (length (c .before .before .before .before .before .before .before .before .before .before .before .before .before .before .before .before .before .before .before .before .before .before .before .before .args .parent .now))) (length (c .before .before .before .before .before .before .before .before .before .before .before .before .before .before .before .before .before .before .before .before .before .before .before .before .args .parent .now)) (lent (c .before .before .before .before .before .before .before .before .before .before .before .before .before .before .before .before .before .before .before .before .before .before .before .before)) (c .before .before .before .before .before .before .before .before .before .before .before .before .before .before .before .before .before .before .before .before .before .before .before .before .args .a) (c .before .before .before .before .before .before .before .before .before .before .before .before .before .before .before .before .before .before .before .before .before .before .before .before .args .a .depth - c .before .before .before .before .before .before .before .before .before .before .before .before .before .before .before .before .before .before .before .before .before .before .before .before .args .b .depth - 1) _ (sym (c .before .before .before .ancestor-from .ensures (c .before .before .before .before .before .before .before .before .before .before .before .before .before .before .before .before .before .before .before .before .before .before .before .before .args .size .now)) ∙ c .before .found .given .1) }
+without-child-requires c κs =
+    let at-start = c .before .before .before .before .before .before .before .before .before .before .before .before .before .before .before .before .before .before .before .before .before .before .before .before in
+    record { id = at-start .pre .even .id; size = at-start .pre .size; vertex = found-below (log2 (length (at-start .args .parent .now))) (length (at-start .args .parent .now)) (lent (c .before .before .before .before .before .before .before .before .before .before .before .before .before .before .before .before .before .before .before .before .before .before .before .before)) (at-start .args .a) (at-start .args .a .depth - at-start .args .b .depth - 1) _ (sym (c .before .before .before .ancestor-from .ensures (at-start .args .size .now)) ∙ c .before .found .given .1) }
 
 returns-6 : tie.Need-returns-6
-returns-6 c = c .without-child .ensures (c .before .before .before .before .before .before .before .before .before .before .before .before .before .before .before .before .before .before .before .before .before .before .before .before .before .args .parent .now) (c .before .before .before .before .before .before .before .before .before .before .before .before .before .before .before .before .before .before .before .before .before .before .before .before .before .args .depth .now) (c .before .before .before .before .before .before .before .before .before .before .before .before .before .before .before .before .before .before .before .before .before .before .before .before .before .args .head .now) (c .before .before .before .before .before .before .before .before .before .before .before .before .before .before .before .before .before .before .before .before .before .before .before .before .before .args .order .now) ∙ (ap (withoutChild _ (lent (c .before .before .before .before .before .before .before .before .before .before .before .before .before .before .before .before .before .before .before .before .before .before .before .before .before))) (sym (c .before .before .found .given .1) ∙ (c .before .before .before .before .ancestor-from .ensures _ ∙ risen (c .before .before .before .before .before .before .before .before .before .before .before .before .before .before .before .before .before .before .before .before .before .before .before .before .before) _)) ∙ size-inside _ (lent (c .before .before .before .before .before .before .before .before .before .before .before .before .before .before .before .before .before .before .before .before .before .before .before .before .before)) (on-a (c .before .before .before .before .before .before .before .before .before .before .before .before .before .before .before .before .before .before .before .before .before .before .before .before .before)) (on-b (c .before .before .before .before .before .before .before .before .before .before .before .before .before .before .before .before .before .before .before .before .before .before .before .before .before)) (sym (c .before .before .before .before .before .before .before .before .before .before .before .before .before .before .before .before .before .size-sound .ensures) ∙ not-false _ (c .before .before .before .before .before .before .before .before .before .before .before .before .before .before .before .before .if1 .left)) (c .before .before .before .before .before .before .before .before .before .before .before .before .before .if2 .left) (c .before .before .before .before .before .before .before .before .before .before .if3 .left) (c .before .before .before .before .before .before .before .if4 .left))
+returns-6 c =
+    let at-start = c .before .before .before .before .before .before .before .before .before .before .before .before .before .before .before .before .before .before .before .before .before .before .before .before .before in
+    c .without-child .ensures (at-start .args .parent .now) (at-start .args .depth .now) (at-start .args .head .now) (at-start .args .order .now) ∙ (ap (withoutChild _ (lent (c .before .before .before .before .before .before .before .before .before .before .before .before .before .before .before .before .before .before .before .before .before .before .before .before .before))) (sym (c .before .before .found .given .1) ∙ (c .before .before .before .before .ancestor-from .ensures _ ∙ risen (c .before .before .before .before .before .before .before .before .before .before .before .before .before .before .before .before .before .before .before .before .before .before .before .before .before) _)) ∙ size-inside _ (lent (c .before .before .before .before .before .before .before .before .before .before .before .before .before .before .before .before .before .before .before .before .before .before .before .before .before)) (on-a (c .before .before .before .before .before .before .before .before .before .before .before .before .before .before .before .before .before .before .before .before .before .before .before .before .before)) (on-b (c .before .before .before .before .before .before .before .before .before .before .before .before .before .before .before .before .before .before .before .before .before .before .before .before .before)) (sym (c .before .before .before .before .before .before .before .before .before .before .before .before .before .before .before .before .before .size-sound .ensures) ∙ not-false _ (c .before .before .before .before .before .before .before .before .before .before .before .before .before .before .before .before .if1 .left)) (c .before .before .before .before .before .before .before .before .before .before .before .before .before .if2 .left) (c .before .before .before .before .before .before .before .before .before .before .if3 .left) (c .before .before .before .before .before .before .before .if4 .left))
 
 pub re-rooted-size-spec : {M : Type 1} → statement M
 re-rooted-size-spec =

@@ -29,16 +29,24 @@ cast-size-sound : tie.Need-cast-size-sound
 cast-size-sound c = fits-widen tt (c .shared-slice-known4 .given _)
 
 size-sound-requires : tie.Need-size-sound-requires
-size-sound-requires c κs = omega (arith, c .before .shared-slice-known3 .given (c .before .before .before .before .args .y), c .shared-slice-known4 .given (c .before .before .before .before .args .y))
+size-sound-requires c κs =
+    let at-start = c .before .before .before .before in
+    omega (arith, c .before .shared-slice-known3 .given (at-start .args .y), c .shared-slice-known4 .given (at-start .args .y))
 
 returns : tie.Need-returns
-returns c = λ P D H O. left-unsized (c .before .before .before .before .before .before .args .n) (six P D H (c .before .before .before .before .before .before .args .id .now) O (c .before .before .before .before .before .before .args .size .now)) (c .before .before .before .before .before .before .args .y) (sym (c .before .size-sound .ensures) ∙ not-true _ (c .if1 .taken))
+returns c =
+    let at-start = c .before .before .before .before .before .before in
+    λ P D H O. left-unsized (at-start .args .n) (six P D H (at-start .args .id .now) O (at-start .args .size .now)) (at-start .args .y) (sym (c .before .size-sound .ensures) ∙ not-true _ (c .if1 .taken))
 
 sub-t6 : tie.Need-sub-t6
-sub-t6 c = omega (arith, counted-ends (c .before .before .before .before .before .before .args .n) (at (c .before .before .before .before .before .before .args .id .now) (c .before .before .before .before .before .before .args .y)) (at (c .before .before .before .before .before .before .args .size .now) (c .before .before .before .before .before .before .args .y)) (sym (c .before .size-sound .ensures) ∙ not-false _ (c .if1 .left)))
+sub-t6 c =
+    let at-start = c .before .before .before .before .before .before in
+    omega (arith, counted-ends (at-start .args .n) (at (at-start .args .id .now) (at-start .args .y)) (at (at-start .args .size .now) (at-start .args .y)) (sym (c .before .size-sound .ensures) ∙ not-false _ (c .if1 .left)))
 
 returns-2 : tie.Need-returns-2
-returns-2 c = λ P D H O. left-over (c .before .before .before .before .before .before .args .n) (six P D H (c .before .before .before .before .before .before .args .id .now) O (c .before .before .before .before .before .before .args .size .now)) (c .before .before .before .before .before .before .args .y) (sym (c .before .size-sound .ensures) ∙ not-false _ (c .if1 .left))
+returns-2 c =
+    let at-start = c .before .before .before .before .before .before in
+    λ P D H O. left-over (at-start .args .n) (six P D H (at-start .args .id .now) O (at-start .args .size .now)) (at-start .args .y) (sym (c .before .size-sound .ensures) ∙ not-false _ (c .if1 .left))
 
 pub without-child-spec : {M : Type 1} → statement M
 without-child-spec =

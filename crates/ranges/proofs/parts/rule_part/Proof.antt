@@ -21,16 +21,24 @@ enum-told : tie.Need-enum-told
 enum-told c = search needs
 
 mul-result : tie.Need-mul-result
-mul-result c = let n = named-means (length (c .before .before .before .before .before .before .args .first .now)) (length (c .before .before .before .before .before .before .args .second .now)) (c .before .before .before .before .before .before .args .start) (c .before .before .before .before .before .before .args .end) (sym (c .before .before .before .names-part .ensures) ∙ not-false _ (c .before .before .if1 .left)) in let a = n .some in let b = n .within in search needs
+mul-result c =
+    let at-start = c .before .before .before .before .before .before in
+    let n = named-means (length (at-start .args .first .now)) (length (at-start .args .second .now)) (at-start .args .start) (at-start .args .end) (sym (c .before .before .before .names-part .ensures) ∙ not-false _ (c .before .before .if1 .left)) in let a = n .some in let b = n .within in search needs
 
 sub-result : tie.Need-sub-result
-sub-result c = let n = named-means (length (c .before .before .before .before .before .before .args .first .now)) (length (c .before .before .before .before .before .before .args .second .now)) (c .before .before .before .before .before .before .args .start) (c .before .before .before .before .before .before .args .end) (sym (c .before .before .before .names-part .ensures) ∙ not-false _ (c .before .before .if1 .left)) in let a = n .some in let b = n .within in omega arith
+sub-result c =
+    let at-start = c .before .before .before .before .before .before in
+    let n = named-means (length (at-start .args .first .now)) (length (at-start .args .second .now)) (at-start .args .start) (at-start .args .end) (sym (c .before .before .before .names-part .ensures) ∙ not-false _ (c .before .before .if1 .left)) in let a = n .some in let b = n .within in omega arith
 
 part-result-start : tie.Need-part-result-start
-part-result-start c = let n = named-means (length (c .before .before .before .before .before .before .args .first .now)) (length (c .before .before .before .before .before .before .args .second .now)) (c .before .before .before .before .before .before .args .start) (c .before .before .before .before .before .before .args .end) (sym (c .before .before .before .names-part .ensures) ∙ not-false _ (c .before .before .if1 .left)) in let a = n .some in let b = n .within in omega arith
+part-result-start c =
+    let at-start = c .before .before .before .before .before .before in
+    let n = named-means (length (at-start .args .first .now)) (length (at-start .args .second .now)) (at-start .args .start) (at-start .args .end) (sym (c .before .before .before .names-part .ensures) ∙ not-false _ (c .before .before .if1 .left)) in let a = n .some in let b = n .within in omega arith
 
 part-result-end : tie.Need-part-result-end
-part-result-end c = let n = named-means (length (c .before .before .before .before .before .before .args .first .now)) (length (c .before .before .before .before .before .before .args .second .now)) (c .before .before .before .before .before .before .args .start) (c .before .before .before .before .before .before .args .end) (sym (c .before .before .before .names-part .ensures) ∙ not-false _ (c .before .before .if1 .left)) in let a = n .some in let b = n .within in omega arith
+part-result-end c =
+    let at-start = c .before .before .before .before .before .before in
+    let n = named-means (length (at-start .args .first .now)) (length (at-start .args .second .now)) (at-start .args .start) (at-start .args .end) (sym (c .before .before .before .names-part .ensures) ∙ not-false _ (c .before .before .if1 .left)) in let a = n .some in let b = n .within in omega arith
 
 returns-2 : tie.Need-returns-2
 returns-2 c = part-forward _ _ _ _ _ (sym (c .before .before .before .before .names-part .ensures) ∙ not-false _ (c .before .before .before .if1 .left)) (c .before .enum-told .given .1)
@@ -39,22 +47,32 @@ enum-told-2 : tie.Need-enum-told-2
 enum-told-2 c = search needs
 
 sub-from : tie.Need-sub-from
-sub-from c = let n = named-means (length (c .before .before .before .before .before .before .args .first .now)) (length (c .before .before .before .before .before .before .args .second .now)) (c .before .before .before .before .before .before .args .start) (c .before .before .before .before .before .before .args .end) (sym (c .before .before .before .names-part .ensures) ∙ not-false _ (c .before .before .if1 .left)) in let a = n .some in let b = n .within in omega arith
+sub-from c =
+    let at-start = c .before .before .before .before .before .before in
+    let n = named-means (length (at-start .args .first .now)) (length (at-start .args .second .now)) (at-start .args .start) (at-start .args .end) (sym (c .before .before .before .names-part .ensures) ∙ not-false _ (c .before .before .if1 .left)) in let a = n .some in let b = n .within in omega arith
 
 sub-to : tie.Need-sub-to
-sub-to c = let n = named-means (length (c .before .before .before .before .before .before .args .first .now)) (length (c .before .before .before .before .before .before .args .second .now)) (c .before .before .before .before .before .before .args .start) (c .before .before .before .before .before .before .args .end) (sym (c .before .before .before .names-part .ensures) ∙ not-false _ (c .before .before .if1 .left)) in let a = n .some in let b = n .within in omega arith
+sub-to c =
+    let at-start = c .before .before .before .before .before .before in
+    let n = named-means (length (at-start .args .first .now)) (length (at-start .args .second .now)) (at-start .args .start) (at-start .args .end) (sym (c .before .before .before .names-part .ensures) ∙ not-false _ (c .before .before .if1 .left)) in let a = n .some in let b = n .within in omega arith
 
 mul-result-2 : tie.Need-mul-result-2
 mul-result-2 c = search needs
 
 sub-result-2 : tie.Need-sub-result-2
-sub-result-2 c = let n = named-means (length (c .before .before .before .before .before .before .args .first .now)) (length (c .before .before .before .before .before .before .args .second .now)) (c .before .before .before .before .before .before .args .start) (c .before .before .before .before .before .before .args .end) (sym (c .before .before .before .names-part .ensures) ∙ not-false _ (c .before .before .if1 .left)) in let a = n .some in let b = n .within in omega arith
+sub-result-2 c =
+    let at-start = c .before .before .before .before .before .before in
+    let n = named-means (length (at-start .args .first .now)) (length (at-start .args .second .now)) (at-start .args .start) (at-start .args .end) (sym (c .before .before .before .names-part .ensures) ∙ not-false _ (c .before .before .if1 .left)) in let a = n .some in let b = n .within in omega arith
 
 part-result-start-2 : tie.Need-part-result-start-2
-part-result-start-2 c = let n = named-means (length (c .before .before .before .before .before .before .args .first .now)) (length (c .before .before .before .before .before .before .args .second .now)) (c .before .before .before .before .before .before .args .start) (c .before .before .before .before .before .before .args .end) (sym (c .before .before .before .names-part .ensures) ∙ not-false _ (c .before .before .if1 .left)) in let a = n .some in let b = n .within in omega arith
+part-result-start-2 c =
+    let at-start = c .before .before .before .before .before .before in
+    let n = named-means (length (at-start .args .first .now)) (length (at-start .args .second .now)) (at-start .args .start) (at-start .args .end) (sym (c .before .before .before .names-part .ensures) ∙ not-false _ (c .before .before .if1 .left)) in let a = n .some in let b = n .within in omega arith
 
 part-result-end-2 : tie.Need-part-result-end-2
-part-result-end-2 c = let n = named-means (length (c .before .before .before .before .before .before .args .first .now)) (length (c .before .before .before .before .before .before .args .second .now)) (c .before .before .before .before .before .before .args .start) (c .before .before .before .before .before .before .args .end) (sym (c .before .before .before .names-part .ensures) ∙ not-false _ (c .before .before .if1 .left)) in let a = n .some in let b = n .within in let d = n .even in omega arith
+part-result-end-2 c =
+    let at-start = c .before .before .before .before .before .before in
+    let n = named-means (length (at-start .args .first .now)) (length (at-start .args .second .now)) (at-start .args .start) (at-start .args .end) (sym (c .before .before .before .names-part .ensures) ∙ not-false _ (c .before .before .if1 .left)) in let a = n .some in let b = n .within in let d = n .even in omega arith
 
 returns-3 : tie.Need-returns-3
 returns-3 c = part-reversed _ _ _ _ _ (sym (c .before .before .before .before .names-part .ensures) ∙ not-false _ (c .before .before .before .if1 .left)) (c .before .enum-told2 .given .1)

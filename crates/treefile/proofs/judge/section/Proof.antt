@@ -10,13 +10,17 @@ use Rattle.treefile.proofs.Sections.{section-none, section-many, sectio
 use Rattle.treefile.specs.File.{words}
 
 returns : tie.Need-returns
-returns c = sym (ap countOf (section-none (c .before .before .args .most) (words (c .before .before .args .bytes .now)) (c .before .before .args .p) (omega (arith, words-length (c .before .before .args .bytes .now)))))
+returns c =
+    let at-start = c .before .before in
+    sym (ap countOf (section-none (at-start .args .most) (words (at-start .args .bytes .now)) (at-start .args .p) (omega (arith, words-length (at-start .args .bytes .now)))))
 
 word-requires : tie.Need-word-requires
 word-requires c κs = omega (arith, words-length (c .before .before .args .bytes .now))
 
 returns-2 : tie.Need-returns-2
-returns-2 c = sym (ap countOf (section-many (c .before .before .before .before .args .most) (words (c .before .before .before .before .args .bytes .now)) (c .before .before .before .before .args .p) (omega (arith, words-length (c .before .before .before .before .args .bytes .now))) (omega (arith, c .if2 .taken, c .before .word .ensures .value))))
+returns-2 c =
+    let at-start = c .before .before .before .before in
+    sym (ap countOf (section-many (at-start .args .most) (words (at-start .args .bytes .now)) (at-start .args .p) (omega (arith, words-length (at-start .args .bytes .now))) (omega (arith, c .if2 .taken, c .before .word .ensures .value))))
 
 add-if3 : tie.Need-add-if3
 add-if3 c = search needs
@@ -25,10 +29,14 @@ sub-if3 : tie.Need-sub-if3
 sub-if3 c = search needs
 
 returns-3 : tie.Need-returns-3
-returns-3 c = sym (ap countOf (section-short (c .before .before .before .before .before .args .most) (words (c .before .before .before .before .before .args .bytes .now)) (c .before .before .before .before .before .args .p) (omega (arith, words-length (c .before .before .before .before .before .args .bytes .now))) (omega (arith, c .if3 .taken, words-length (c .before .before .before .before .before .args .bytes .now), c .before .before .word .ensures .value))))
+returns-3 c =
+    let at-start = c .before .before .before .before .before in
+    sym (ap countOf (section-short (at-start .args .most) (words (at-start .args .bytes .now)) (at-start .args .p) (omega (arith, words-length (at-start .args .bytes .now))) (omega (arith, c .if3 .taken, words-length (at-start .args .bytes .now), c .before .before .word .ensures .value))))
 
 returns-4 : tie.Need-returns-4
-returns-4 c = ap Count (c .before .before .word .ensures .value) ∙ sym (section-count (c .before .before .before .before .before .args .most) (words (c .before .before .before .before .before .args .bytes .now)) (c .before .before .before .before .before .args .p) (omega (arith, words-length (c .before .before .before .before .before .args .bytes .now))) (omega (arith, c .before .if2 .left, c .before .before .word .ensures .value)) (omega (arith, c .if3 .left, words-length (c .before .before .before .before .before .args .bytes .now), c .before .before .word .ensures .value)))
+returns-4 c =
+    let at-start = c .before .before .before .before .before in
+    ap Count (c .before .before .word .ensures .value) ∙ sym (section-count (at-start .args .most) (words (at-start .args .bytes .now)) (at-start .args .p) (omega (arith, words-length (at-start .args .bytes .now))) (omega (arith, c .before .if2 .left, c .before .before .word .ensures .value)) (omega (arith, c .if3 .left, words-length (at-start .args .bytes .now), c .before .before .word .ensures .value)))
 
 pub section-spec : {M : Type 1} → statement M
 section-spec =

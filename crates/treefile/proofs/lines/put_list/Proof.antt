@@ -13,10 +13,15 @@ enum-known-answer : tie.Need-enum-known-answer
 enum-known-answer c = search needs
 
 put-decimal-requires : tie.Need-put-decimal-requires
-put-decimal-requires c κs = room-first _ (room-as (ap (λ (a : Listed). listedText a (c .before .before .before .before .before .before .args .flat .now)) (c .before .before .answer .given .1)) (c .before .before .before .before .before .before .pre .room))
+put-decimal-requires c κs =
+    let at-start = c .before .before .before .before .before .before in
+    room-first _ (room-as (ap (λ (a : Listed). listedText a (at-start .args .flat .now)) (c .before .before .answer .given .1)) (at-start .pre .room))
 
 put-ranges-requires : tie.Need-put-ranges-requires
-put-ranges-requires c κs = (subst (λ (a : Listed). spokenOf a ≤ length (c .before .before .before .before .before .before .before .before .before .before .args .flat .now)) (c .before .before .before .before .before .before .answer .given .1) (c .before .before .before .before .before .before .before .before .before .before .pre .whole), room-then (c .before .before .before .put-decimal .ensures) (room-as (ap (λ (a : Listed). listedText a (c .before .before .before .before .before .before .before .before .before .before .args .flat .now)) (c .before .before .before .before .before .before .answer .given .1)) (c .before .before .before .before .before .before .before .before .before .before .pre .room)))
+put-ranges-requires c κs =
+    let at-start = c .before .before .before .before .before .before .before .before .before .before in
+    let at-answer = c .before .before .before .before .before .before .answer in
+    (subst (λ (a : Listed). spokenOf a ≤ length (at-start .args .flat .now)) (at-answer .given .1) (at-start .pre .whole), room-then (c .before .before .before .put-decimal .ensures) (room-as (ap (λ (a : Listed). listedText a (at-start .args .flat .now)) (at-answer .given .1)) (at-start .pre .room)))
 
 enum-known-answer-2 : tie.Need-enum-known-answer-2
 enum-known-answer-2 c = search needs
@@ -25,19 +30,25 @@ code-of-requires : tie.Need-code-of-requires
 code-of-requires c κs = search needs
 
 put-decimal-requires-2 : tie.Need-put-decimal-requires-2
-put-decimal-requires-2 c κs = room-as (ap (λ (a : Listed). listedText a (c .before .before .before .before .before .before .before .args .flat .now)) (c .before .before .before .answer2 .given .1) ∙ ap decimal (sym (c .code-of .ensures))) (c .before .before .before .before .before .before .before .pre .room)
+put-decimal-requires-2 c κs =
+    let at-start = c .before .before .before .before .before .before .before in
+    room-as (ap (λ (a : Listed). listedText a (at-start .args .flat .now)) (c .before .before .before .answer2 .given .1) ∙ ap decimal (sym (c .code-of .ensures))) (at-start .pre .room)
 
 same-length : tie.Need-same-length
 same-length c = search needs
 
 returns : tie.Need-returns
-returns c = puts-as (sym (ap (λ (a : Listed). listedText a (c .before .before .before .before .before .before .before .before .before .before .before .before .before .args .flat .now)) (c .before .before .before .before .before .before .before .before .before .answer .given .1))) (puts-then (c .before .before .before .before .before .before .put-decimal .ensures) (c .before .before .put-ranges .ensures))
+returns c =
+    let at-start = c .before .before .before .before .before .before .before .before .before .before .before .before .before in
+    puts-as (sym (ap (λ (a : Listed). listedText a (at-start .args .flat .now)) (c .before .before .before .before .before .before .before .before .before .answer .given .1))) (puts-then (c .before .before .before .before .before .before .put-decimal .ensures) (c .before .before .put-ranges .ensures))
 
 same-length-2 : tie.Need-same-length-2
 same-length-2 c = search needs
 
 returns-2 : tie.Need-returns-2
-returns-2 c = puts-as (sym (ap (λ (a : Listed). listedText a (c .before .before .before .before .before .before .before .before .before .before .args .flat .now)) (c .before .before .before .before .before .before .answer2 .given .1) ∙ ap decimal (sym (c .before .before .before .code-of .ensures)))) (c .before .before .put-decimal2 .ensures)
+returns-2 c =
+    let at-start = c .before .before .before .before .before .before .before .before .before .before in
+    puts-as (sym (ap (λ (a : Listed). listedText a (at-start .args .flat .now)) (c .before .before .before .before .before .before .answer2 .given .1) ∙ ap decimal (sym (c .before .before .before .code-of .ensures)))) (c .before .before .put-decimal2 .ensures)
 
 pub put-list-spec : {M : Type 1} → statement M
 put-list-spec =

@@ -21,7 +21,9 @@ loop-holds : tie.Need-loop-holds Inv-loop μ-loop
 loop-holds c = (puts-none _ _, omega arith)
 
 put-query-at-requires : tie.Need-put-query-at-requires Inv-loop μ-loop
-put-query-at-requires c κs = record { there = omega (arith, c .before .before .before .before .before .before .before .before .before .before .before .pre .there); line = record { few = c .before .before .before .before .before .before .before .before .before .before .before .pre .few; room = lines-room _ _ _ _ (c .before .loop-test .taken) (c .before .before .loop .inv .0) (c .before .before .before .before .before .before .before .before .before .before .before .pre .room) } }
+put-query-at-requires c κs =
+    let at-start = c .before .before .before .before .before .before .before .before .before .before .before in
+    record { there = omega (arith, at-start .pre .there); line = record { few = at-start .pre .few; room = lines-room _ _ _ _ (c .before .loop-test .taken) (c .before .before .loop .inv .0) (at-start .pre .room) } }
 
 add-i : tie.Need-add-i Inv-loop μ-loop
 add-i c = omega arith
@@ -36,7 +38,9 @@ same-length : tie.Need-same-length Inv-loop μ-loop
 same-length c = puts-length (c .before .loop .inv .0)
 
 returns : tie.Need-returns Inv-loop μ-loop
-returns c = let e : c .before .loop .i ≡ c .before .before .before .before .before .before .before .before .before .before .args .count = omega arith in puts-as (ap (λ (k : ℕ). queryLines (six (c .before .before .before .before .before .before .before .before .before .before .args .parent .now) (c .before .before .before .before .before .before .before .before .before .before .args .depth .now) (c .before .before .before .before .before .before .before .before .before .before .args .head .now) (c .before .before .before .before .before .before .before .before .before .before .args .id .now) (c .before .before .before .before .before .before .before .before .before .before .args .order .now) (c .before .before .before .before .before .before .before .before .before .before .args .size .now)) 1 (queriesOf k (c .before .before .before .before .before .before .before .before .before .before .args .queries .now))) e) (c .before .loop .inv .0)
+returns c =
+    let at-start = c .before .before .before .before .before .before .before .before .before .before in
+    let e : c .before .loop .i ≡ at-start .args .count = omega arith in puts-as (ap (λ (k : ℕ). queryLines (six (at-start .args .parent .now) (at-start .args .depth .now) (at-start .args .head .now) (at-start .args .id .now) (at-start .args .order .now) (at-start .args .size .now)) 1 (queriesOf k (at-start .args .queries .now))) e) (c .before .loop .inv .0)
 
 pub put-queries-spec : {M : Type 1} → statement M
 put-queries-spec =

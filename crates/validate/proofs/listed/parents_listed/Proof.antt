@@ -27,7 +27,9 @@ shared-slice-read-up : tie.Need-shared-slice-read-up Inv-loop μ-loop
 shared-slice-read-up c = search needs
 
 cast-up : tie.Need-cast-up Inv-loop μ-loop
-cast-up c = omega (arith, c .shared-slice-known4 .given (c .before .before .before .before .before .before .args .n + c .before .before .loop .j))
+cast-up c =
+    let at-start = c .before .before .before .before .before .before in
+    omega (arith, c .shared-slice-known4 .given (at-start .args .n + c .before .before .loop .j))
 
 mul-neighbours : tie.Need-mul-neighbours Inv-loop μ-loop
 mul-neighbours c = search needs
@@ -42,16 +44,24 @@ neighbours-requires : tie.Need-neighbours-requires Inv-loop μ-loop
 neighbours-requires c κs = search needs
 
 mul-stands : tie.Need-mul-stands Inv-loop μ-loop
-mul-stands c = omega (arith, c .before .before .before .before .before .before .before .before .pre .position (c .before .before .before .before .loop .j) (c .before .before .before .before .loop .inv .0) (c .before .before .before .loop-test .taken), c .before .before .before .before .before .before .before .before .pre .room, c .before .before .before .before .before .before .before .before .good)
+mul-stands c =
+    let at-start = c .before .before .before .before .before .before .before .before in
+    let at-loop = c .before .before .before .before .loop in
+    omega (arith, at-start .pre .position (at-loop .j) (at-loop .inv .0) (c .before .before .before .loop-test .taken), at-start .pre .room, at-start .good)
 
 shared-slice-read-stands : tie.Need-shared-slice-read-stands Inv-loop μ-loop
-shared-slice-read-stands c = omega (arith, c .before .before .before .before .before .before .before .before .before .pre .position (c .before .before .before .before .before .loop .j) (c .before .before .before .before .before .loop .inv .0) (c .before .before .before .before .loop-test .taken), c .before .before .before .before .before .before .before .before .before .pre .room)
+shared-slice-read-stands c =
+    let at-start = c .before .before .before .before .before .before .before .before .before in
+    let at-loop = c .before .before .before .before .before .loop in
+    omega (arith, at-start .pre .position (at-loop .j) (at-loop .inv .0) (c .before .before .before .before .loop-test .taken), at-start .pre .room)
 
 stands-requires : tie.Need-stands-requires Inv-loop μ-loop
 stands-requires c κs = search needs
 
 returns : tie.Need-returns Inv-loop μ-loop
-returns c = decides-no (λ l. failed (c .before .stands .ensures) (c .if1 .taken) (subst (In _) (sym (c .before .before .before .neighbours .ensures)) (l (c .before .before .before .before .before .before .before .loop .j) (c .before .before .before .before .before .before .before .loop .inv .0) (c .before .before .before .before .before .before .loop-test .taken))))
+returns c =
+    let at-loop = c .before .before .before .before .before .before .before .loop in
+    decides-no (λ l. failed (c .before .stands .ensures) (c .if1 .taken) (subst (In _) (sym (c .before .before .before .neighbours .ensures)) (l (at-loop .j) (at-loop .inv .0) (c .before .before .before .before .before .before .loop-test .taken))))
 
 add-j : tie.Need-add-j Inv-loop μ-loop
 add-j c = search needs
@@ -60,7 +70,9 @@ loop-less : tie.Need-loop-less Inv-loop μ-loop
 loop-less c = search needs
 
 loop-again : tie.Need-loop-again Inv-loop μ-loop
-loop-again c = (omega arith, listed-more _ _ (c .before .before .before .before .before .before .before .before .before .before .before .args .n) (c .before .before .before .before .before .before .before .before .before .before .before .args .work .now) _ (c .before .before .before .before .before .before .before .loop .inv .1) (subst (In _) (c .before .before .before .neighbours .ensures) (passed (c .before .stands .ensures) (c .if1 .left))))
+loop-again c =
+    let at-start = c .before .before .before .before .before .before .before .before .before .before .before in
+    (omega arith, listed-more _ _ (at-start .args .n) (at-start .args .work .now) _ (c .before .before .before .before .before .before .before .loop .inv .1) (subst (In _) (c .before .before .before .neighbours .ensures) (passed (c .before .stands .ensures) (c .if1 .left))))
 
 returns-2 : tie.Need-returns-2 Inv-loop μ-loop
 returns-2 c = decides-yes (λ k a h. c .before .loop .inv .1 k a (omega (arith, c .loop-test .left)))
