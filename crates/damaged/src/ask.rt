@@ -1,4 +1,5 @@
-// One case: the damage, the query and the line.
+// The queries, by number, in the order of how many numbers each takes:
+// root, range, depth, id, distance, ancestor, size, lca, jump.
 use climb::answers::Answer;
 use climb::answers::Interval;
 use climb::answers::Refusal;
@@ -13,34 +14,7 @@ use queries::reads::vertex_id;
 use queries::sizes::subtree_range;
 use queries::sizes::subtree_size;
 
-// The places of the tables in a list of all six.
-pub const PARENT: usize = 0;
-
-pub const DEPTH: usize = 1;
-
-pub const HEAD: usize = 2;
-
-pub const ID: usize = 3;
-
-pub const ORDER: usize = 4;
-
-pub const SIZE: usize = 5;
-
-// No parent, and the greatest number of a table.
-pub const MOST: u32 = 4_294_967_295;
-
-pub enum Query {
-    Distance(usize, usize),
-    Lca(usize, usize, usize),
-    Ancestor(usize, usize),
-    Jump(usize, usize, usize),
-    Size(usize, usize),
-    Range(usize),
-    Root,
-    Depth(usize),
-    Id(usize),
-}
-
+// Prints the code of a refusal.
 fn print_refusal(refusal: Refusal) {
     let code = match refusal {
         Refusal::BadSize => 1,
@@ -52,32 +26,33 @@ fn print_refusal(refusal: Refusal) {
     io::print_decimal(STDOUT_FILENO, code);
 }
 
+// Prints the code of an answer, a space and the number.
 fn print_value(x: usize) {
-    io::write_all(STDOUT_FILENO, b" ");
+    io::write_all(STDOUT_FILENO, b"0 ");
     io::print_decimal(STDOUT_FILENO, x as u64);
+}
+
+fn print_range(start: usize, end: usize) {
+    print_value(start);
+    io::write_all(STDOUT_FILENO, b" ");
+    io::print_decimal(STDOUT_FILENO, end as u64);
 }
 
 fn print(answer: Answer) {
     match answer {
-        Answer::Is(x) => {
-            io::write_all(STDOUT_FILENO, b"0");
-            print_value(x);
-        }
+        Answer::Is(x) => print_value(x),
         Answer::Refused(refusal) => print_refusal(refusal),
     }
 }
 
-fn print_range(interval: Interval) {
+fn print_interval(interval: Interval) {
     match interval {
-        Interval::Between(start, end) => {
-            io::write_all(STDOUT_FILENO, b"0");
-            print_value(start);
-            print_value(end);
-        }
+        Interval::Between(start, end) => print_range(start, end),
         Interval::Refused(refusal) => print_refusal(refusal),
     }
 }
 
+// The answer to any query but that for a range, with as many of the numbers as it has.
 fn answer(
     parent: &[u32],
     depths: &[u32],
@@ -85,46 +60,69 @@ fn answer(
     id: &[u32],
     order: &[u32],
     size: &[u32],
-    query: Query,
+    kind: u32,
+    u: usize,
+    v: usize,
+    w: usize,
+) -> Answer {
+    match kind {
+        0 => root(parent, depths, head, id, order, size),
+        2 => depth(parent, depths, head, id, order, size, u),
+        3 => vertex_id(parent, depths, head, id, order, size, u),
+        4 => distance(parent, depths, head, id, order, size, u, v),
+        5 => kth_ancestor(parent, depths, head, id, order, size, u, v),
+        6 => subtree_size(parent, depths, head, id, order, size, u, v),
+        7 => lca(parent, depths, head, id, order, size, u, v, w),
+        _ => jump(parent, depths, head, id, order, size, u, v, w),
+    }
+}
+
+// Asks and prints the answer.
+fn ask_lent(
+    parent: &[u32],
+    depths: &[u32],
+    head: &[u32],
+    id: &[u32],
+    order: &[u32],
+    size: &[u32],
+    kind: u32,
+    u: usize,
+    v: usize,
+    w: usize,
 ) {
-    match query {
-        Query::Distance(u, v) => print(distance(parent, depths, head, id, order, size, u, v)),
-        Query::Lca(r, u, v) => print(lca(parent, depths, head, id, order, size, r, u, v)),
-        Query::Ancestor(v, k) => print(kth_ancestor(parent, depths, head, id, order, size, v, k)),
-        Query::Jump(u, v, k) => print(jump(parent, depths, head, id, order, size, u, v, k)),
-        Query::Size(r, v) => print(subtree_size(parent, depths, head, id, order, size, r, v)),
-        Query::Range(v) => print_range(subtree_range(parent, depths, head, id, order, size, v)),
-        Query::Root => print(root(parent, depths, head, id, order, size)),
-        Query::Depth(v) => print(depth(parent, depths, head, id, order, size, v)),
-        Query::Id(v) => print(vertex_id(parent, depths, head, id, order, size, v)),
+    if kind == 1 {
+        print_interval(subtree_range(parent, depths, head, id, order, size, u));
+        return;
     }
+    print(answer(parent, depths, head, id, order, size, kind, u, v, w));
 }
 
-// Sets the entry at this place of the list.
-pub fn set(tables: &mut [u32], place: usize, x: u32) {
-    if place < tables.len() {
-        tables[place] = x;
+// The n entries of the list from this place on; none where the list has not so many.
+fn part(tables: &[u32], from: usize, n: usize) -> &[u32] {
+    if tables.len() < from {
+        return &tables[0..0];
     }
+    if tables.len() - from < n {
+        return &tables[0..0];
+    }
+    &tables[from..from + n]
 }
 
-// Asks the tables of n vertices that stand one after the other in the list.
-pub fn ask(name: &[u8], n: usize, tables: &[u32], query: Query) {
+// Asks the six tables of n vertices that stand one after the other in the list.
+pub fn ask(n: usize, tables: &[u32], kind: u32, u: usize, v: usize, w: usize) {
     if 8 < n {
         return;
     }
-    if tables.len() != 6 * n {
-        return;
-    }
-    io::write_all(STDOUT_FILENO, name);
-    io::write_all(STDOUT_FILENO, b": ");
-    answer(
-        &tables[0..n],
-        &tables[n..2 * n],
-        &tables[2 * n..3 * n],
-        &tables[3 * n..4 * n],
-        &tables[4 * n..5 * n],
-        &tables[5 * n..6 * n],
-        query,
+    ask_lent(
+        part(tables, 0, n),
+        part(tables, n, n),
+        part(tables, 2 * n, n),
+        part(tables, 3 * n, n),
+        part(tables, 4 * n, n),
+        part(tables, 5 * n, n),
+        kind,
+        u,
+        v,
+        w,
     );
-    io::write_all(STDOUT_FILENO, b"\n");
 }
