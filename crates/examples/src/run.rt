@@ -1,4 +1,11 @@
 // One case: the call, the look at work afterwards, and the line.
+use crate::shapes::fill;
+use crate::shapes::graph_at;
+use casetext::NOWHERE;
+use casetext::forms::form;
+use casetext::print_head;
+use casetext::print_malformed;
+use casetext::remark;
 use graph::codes::BAD_SIZE;
 use graph::codes::NO_ROOM;
 use libc::STDOUT_FILENO;
@@ -6,15 +13,6 @@ use validate::validate_tree;
 
 // What stands in each entry of work before a call.
 const BEFORE: u32 = 3_000_000_000;
-
-// Sets all entries to x.
-pub fn fill(work: &mut [u32], x: u32) {
-    let mut i: usize = 0;
-    while i < work.len() {
-        work[i] = x;
-        i += 1;
-    }
-}
 
 // What must stand in entry i of work after a call that clears the first `cleared` entries.
 fn after(i: usize, cleared: usize) -> u32 {
@@ -53,9 +51,9 @@ fn cleared_by(code: u32, points: usize, entries: usize) -> usize {
     8 * (points - 1) + entries
 }
 
-fn print(name: &[u8], code: u32, right: bool) {
-    io::write_all(STDOUT_FILENO, name);
-    io::write_all(STDOUT_FILENO, b": ");
+// Prints the line's rest from its name on, the code and whether work was left right.
+fn print(text: &[u8], name: usize, code: u32, right: bool) {
+    print_head(text, name);
     io::print_decimal(STDOUT_FILENO, code as u64);
     if right {
         io::write_all(STDOUT_FILENO, b", work ok\n");
@@ -64,16 +62,18 @@ fn print(name: &[u8], code: u32, right: bool) {
     }
 }
 
-fn run(name: &[u8], offsets: &[u32], targets: &[u32], root: usize, work: &mut [u32]) {
+// Runs the case of this name on all that is lent.
+fn run(text: &[u8], name: usize, offsets: &[u32], targets: &[u32], root: usize, work: &mut [u32]) {
     fill(work, BEFORE);
     let code = validate_tree(offsets, targets, root, work);
     let right = left_right(work, cleared_by(code, offsets.len(), targets.len()));
-    print(name, code, right);
+    print(text, name, code, right);
 }
 
-// Runs a case on the first points offsets, entries targets and room entries of work.
-pub fn run_part(
-    name: &[u8],
+// Runs the case on the first points offsets, entries targets and room entries of work, and returns whether there are so many.
+fn run_part(
+    text: &[u8],
+    name: usize,
     offsets: &[u32],
     points: usize,
     targets: &[u32],
@@ -81,21 +81,65 @@ pub fn run_part(
     root: usize,
     work: &mut [u32],
     room: usize,
-) {
+) -> bool {
     if offsets.len() < points {
-        return;
+        return false;
     }
     if targets.len() < entries {
-        return;
+        return false;
     }
     if work.len() < room {
-        return;
+        return false;
     }
     run(
+        text,
         name,
         &offsets[0..points],
         &targets[0..entries],
         root,
         &mut work[0..room],
     );
+    true
+}
+
+// Runs the case at this position, and returns whether there is one.
+fn run_case(
+    text: &[u8],
+    at: usize,
+    offsets: &mut [u32],
+    targets: &mut [u32],
+    work: &mut [u32],
+) -> bool {
+    let graph = graph_at(text, at, offsets, targets);
+    let found = form(text, graph.next, b" root # work #: ");
+    if found.next == NOWHERE {
+        return false;
+    }
+    run_part(
+        text,
+        found.next,
+        offsets,
+        graph.points,
+        targets,
+        graph.entries,
+        found.first as usize,
+        work,
+        found.second as usize,
+    )
+}
+
+// Runs a line, where it has a case.
+pub fn run_line(
+    text: &[u8],
+    at: usize,
+    offsets: &mut [u32],
+    targets: &mut [u32],
+    work: &mut [u32],
+) {
+    if remark(text, at) {
+        return;
+    }
+    if !run_case(text, at, offsets, targets, work) {
+        print_malformed(text, at);
+    }
 }

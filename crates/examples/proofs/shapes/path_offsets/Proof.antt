@@ -3,14 +3,14 @@ use borrow.Author.Needs.{needs}
 use Prim.Native.Nat.{_-_}
 use mathlib.Core.Path.{_≡_}
 use lib.ListN.{length}
-use Rattle.examples.proofs.large.path_offsets.Statement.{statement}
-use Rattle.examples.proofs.large.path_offsets.Tie as tie
+use Rattle.examples.proofs.shapes.path_offsets.Statement.{statement}
+use Rattle.examples.proofs.shapes.path_offsets.Tie as tie
 
 abbrev Inv-loop : tie.InvT-loop
-Inv-loop out₀ points end₀ v₀ out end v = length out ≡ length out₀
+Inv-loop out₀ vertices end₀ v₀ out end v = length out ≡ length out₀
 
 abbrev μ-loop : tie.MeasureT-loop
-μ-loop out₀ points end₀ v₀ out end v = length out₀ - v
+μ-loop out₀ vertices end₀ v₀ out end v = length out₀ - v
 
 loop-holds : tie.Need-loop-holds Inv-loop μ-loop
 loop-holds c = search needs

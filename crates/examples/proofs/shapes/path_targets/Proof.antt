@@ -3,20 +3,17 @@ use borrow.Author.Needs.{needs}
 use Prim.Native.Nat.{_-_}
 use mathlib.Core.Path.{_≡_}
 use lib.ListN.{length}
-use Rattle.examples.proofs.small.read_digits.Statement.{statement}
-use Rattle.examples.proofs.small.read_digits.Tie as tie
+use Rattle.examples.proofs.shapes.path_targets.Statement.{statement}
+use Rattle.examples.proofs.shapes.path_targets.Tie as tie
 
 abbrev Inv-loop : tie.InvT-loop
-Inv-loop text out₀ i₀ out i = length out ≡ length out₀
+Inv-loop out₀ next₀ before₀ e₀ out next before e = length out ≡ length out₀
 
 abbrev μ-loop : tie.MeasureT-loop
-μ-loop text out₀ i₀ out i = length out₀ - i
+μ-loop out₀ next₀ before₀ e₀ out next before e = length out₀ - e
 
 loop-holds : tie.Need-loop-holds Inv-loop μ-loop
 loop-holds c = search needs
-
-digit-at-requires : tie.Need-digit-at-requires Inv-loop μ-loop
-digit-at-requires c κs = search needs
 
 mul-out : tie.Need-mul-out Inv-loop μ-loop
 mul-out c = search needs
@@ -24,8 +21,11 @@ mul-out c = search needs
 slice-write-out : tie.Need-slice-write-out Inv-loop μ-loop
 slice-write-out c = search needs
 
-add-i : tie.Need-add-i Inv-loop μ-loop
-add-i c = search needs
+wrapping-add-u32-requires : tie.Need-wrapping-add-u32-requires Inv-loop μ-loop
+wrapping-add-u32-requires c κs = search needs
+
+add-e : tie.Need-add-e Inv-loop μ-loop
+add-e c = search needs
 
 loop-less : tie.Need-loop-less Inv-loop μ-loop
 loop-less c = search needs
@@ -39,17 +39,17 @@ same-length c = search needs
 returns : tie.Need-returns Inv-loop μ-loop
 returns c = search needs
 
-pub read-digits-spec : {M : Type 1} → statement M
-read-digits-spec =
+pub path-targets-spec : {M : Type 1} → statement M
+path-targets-spec =
     tie.close
     (tie.spec
     Inv-loop
     μ-loop
     loop-holds
-    digit-at-requires
     mul-out
     slice-write-out
-    add-i
+    wrapping-add-u32-requires
+    add-e
     loop-less
     loop-again
     same-length

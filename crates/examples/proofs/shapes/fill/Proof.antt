@@ -1,25 +1,25 @@
--- The loop keeps the length of work; what is left of it falls.
+-- The loop keeps the length of out; what is left of it falls.
 use borrow.Author.Needs.{needs}
 use Prim.Native.Nat.{_-_}
 use mathlib.Core.Path.{_≡_}
 use lib.ListN.{length}
-use Rattle.examples.proofs.run.fill.Statement.{statement}
-use Rattle.examples.proofs.run.fill.Tie as tie
+use Rattle.examples.proofs.shapes.fill.Statement.{statement}
+use Rattle.examples.proofs.shapes.fill.Tie as tie
 
 abbrev Inv-loop : tie.InvT-loop
-Inv-loop work₀ x i₀ work i = length work ≡ length work₀
+Inv-loop out₀ x i₀ out i = length out ≡ length out₀
 
 abbrev μ-loop : tie.MeasureT-loop
-μ-loop work₀ x i₀ work i = length work₀ - i
+μ-loop out₀ x i₀ out i = length out₀ - i
 
 loop-holds : tie.Need-loop-holds Inv-loop μ-loop
 loop-holds c = search needs
 
-mul-work : tie.Need-mul-work Inv-loop μ-loop
-mul-work c = search needs
+mul-out : tie.Need-mul-out Inv-loop μ-loop
+mul-out c = search needs
 
-slice-write-work : tie.Need-slice-write-work Inv-loop μ-loop
-slice-write-work c = search needs
+slice-write-out : tie.Need-slice-write-out Inv-loop μ-loop
+slice-write-out c = search needs
 
 add-i : tie.Need-add-i Inv-loop μ-loop
 add-i c = search needs
@@ -43,8 +43,8 @@ fill-spec =
     Inv-loop
     μ-loop
     loop-holds
-    mul-work
-    slice-write-work
+    mul-out
+    slice-write-out
     add-i
     loop-less
     loop-again
