@@ -1,31 +1,39 @@
 -- 01, "Codes": what the decomposition and the component lists answer and leave. Both have root 0.
 use Prim.Native.Nat.{ℕ, _+_, _≤_}
 use mathlib.Core.Path.{_≡_}
-use mathlib.Core.Logic.{_≢_}
 use mathlib.Core.List.{List, [], _∷_, _++_}
 use lib.ListN.{length, drop}
-use Rattle.graph.specs.Codes.{done, badSize, noRoom}
-use Rattle.graph.specs.Judgement.{Test, test, First}
+use Rattle.graph.specs.Codes.{noRoom}
+use Rattle.graph.specs.Judgement.{Test, test}
 use Rattle.graph.specs.Lent.{vertices, listOf}
-use Rattle.graph.specs.Validation.{Sized, roomOf, graphTests, Leaves}
+use Rattle.graph.specs.Validation.{Sized, Fits, roomOf, graphTests, opening, GraphCall}
 use Rattle.centroid.specs.Decomposition.{DecompositionOf}
 use Rattle.centroid.specs.Lists.{ListsOf}
 
--- 1 BadSize: "n or E beyond its limit, or a table not of length n"
-pub record Fits (os ts up level : List ℕ) : Type 0 where
-  pub sized : Sized os ts
-  pub up-long : length up ≡ vertices os
-  pub level-long : length level ≡ vertices os
+-- "The decomposition writes two: parent and level."
+pub record Two : Type 0 where
+  pub up : List ℕ
+  pub level : List ℕ
+
+abbrev pub two : (up level : List ℕ) → Two
+two up level = record { up = up; level = level }
+
+-- each of exactly n entries
+pub record TwoLong (n : ℕ) (t : Two) : Type 0 where
+  pub up-long : length (t .up) ≡ n
+  pub level-long : length (t .level) ≡ n
 
 abbrev pub decomposing : (os ts up level : List ℕ) → ℕ → List Test
-decomposing os ts up level room = test badSize (Fits os ts up level) ∷ test noRoom (roomOf os ts ≤ room) ∷ graphTests os ts 0
+decomposing os ts up level room = opening (Fits os ts (TwoLong (vertices os) (two up level))) (roomOf os ts ≤ room) (graphTests os ts 0)
+
+-- the tables of a decomposition of the lent graph
+abbrev pub TwoOf : (os ts : List ℕ) → Two → Type 0
+TwoOf os ts t = DecompositionOf (vertices os) (listOf os ts) (t .up) (t .level)
 
 -- `try_centroid_decomposition` with tables up, level and work w answers c and leaves up′, level′, w′
-pub record Decomposes (os ts up level w up′ level′ w′ : List ℕ) (c : ℕ) : Type 0 where
-  pub code : First (decomposing os ts up level (length w)) c
-  pub written : c ≡ done → DecompositionOf (vertices os) (listOf os ts) up′ level′
-  pub refused : c ≢ done → (up′ ≡ up) × (level′ ≡ level)
-  pub work : Leaves (Fits os ts up level) (roomOf os ts) w w′
+abbrev pub Decomposes : (os ts up level w up′ level′ w′ : List ℕ) (c : ℕ) → Type 0
+Decomposes os ts up level w up′ level′ w′ c =
+    GraphCall os ts (Fits os ts (TwoLong (vertices os) (two up level))) (decomposing os ts up level (length w)) (TwoOf os ts) (two up level) (two up′ level′) w w′ c
 
 -- the lists fit their room
 pub record Fitting (os ts : List ℕ) (vs ds bs : List ℕ) : Type 0 where
@@ -38,21 +46,35 @@ pub record Fitting (os ts : List ℕ) (vs ds bs : List ℕ) : Type 0 where
   pub distance-room : length l₁ ≤ length ds
   pub branch-room : length l₁ ≤ length bs
 
+-- the tests that follow the first two: those that read the graph, and "once more at the end for the lists"
+abbrev pub listTests : (os ts vs ds bs : List ℕ) → List Test
+listTests os ts vs ds bs = graphTests os ts 0 ++ (test noRoom (Fitting os ts vs ds bs) ∷ [])
+
 -- "for the component lists, 2 is tested second for work and for the table of starts, and once more at the end for the lists"
 abbrev pub listing : (os ts vs ds bs ss : List ℕ) → ℕ → List Test
-listing os ts vs ds bs ss room =
-    test badSize (Sized os ts)
-    ∷ test noRoom ((roomOf os ts ≤ room) × (vertices os + 1 ≤ length ss))
-    ∷ (graphTests os ts 0 ++ (test noRoom (Fitting os ts vs ds bs) ∷ []))
+listing os ts vs ds bs ss room = opening (Sized os ts) ((roomOf os ts ≤ room) × (vertices os + 1 ≤ length ss)) (listTests os ts vs ds bs)
 
 -- a list at the front of the lent one, whose entries past it are unchanged
 abbrev pub Front : List ℕ → List ℕ → List ℕ → Type 0
 Front l lent lent′ = lent′ ≡ l ++ drop (length l) lent
 
+-- what `component_lists` is lent: room for vertices, distances and branches, and the table of starts
+pub record Four : Type 0 where
+  pub vertices : List ℕ
+  pub distances : List ℕ
+  pub branches : List ℕ
+  pub starts : List ℕ
+
+abbrev pub four : (vs ds bs ss : List ℕ) → Four
+four vs ds bs ss = record { vertices = vs; distances = ds; branches = bs; starts = ss }
+
+-- the lists of the lent graph stand at the front of the lent ones
+abbrev pub FourOf : (os ts vs ds bs ss : List ℕ) → Four → Type 0
+FourOf os ts vs ds bs ss m =
+    (l₁ : List ℕ) × (l₂ : List ℕ) × (l₃ : List ℕ) × (l₄ : List ℕ) × ListsOf (vertices os) (listOf os ts) l₁ l₂ l₃ l₄
+    × Front l₁ vs (m .vertices) × Front l₂ ds (m .distances) × Front l₃ bs (m .branches) × Front l₄ ss (m .starts)
+
 -- `component_lists` with room vs, ds, bs for vertices, distances and branches, ss for the starts, and work w
-pub record Lists (os ts vs ds bs ss w vs′ ds′ bs′ ss′ w′ : List ℕ) (c : ℕ) : Type 0 where
-  pub code : First (listing os ts vs ds bs ss (length w)) c
-  pub written : c ≡ done → (l₁ : List ℕ) × (l₂ : List ℕ) × (l₃ : List ℕ) × (l₄ : List ℕ) × ListsOf (vertices os) (listOf os ts) l₁ l₂ l₃ l₄
-      × Front l₁ vs vs′ × Front l₂ ds ds′ × Front l₃ bs bs′ × Front l₄ ss ss′
-  pub refused : c ≢ done → (vs′ ≡ vs) × (ds′ ≡ ds) × (bs′ ≡ bs) × (ss′ ≡ ss)
-  pub work : Leaves (Sized os ts) (roomOf os ts) w w′
+abbrev pub Lists : (os ts vs ds bs ss w vs′ ds′ bs′ ss′ w′ : List ℕ) (c : ℕ) → Type 0
+Lists os ts vs ds bs ss w vs′ ds′ bs′ ss′ w′ c =
+    GraphCall os ts (Sized os ts) (listing os ts vs ds bs ss (length w)) (FourOf os ts vs ds bs ss) (four vs ds bs ss) (four vs′ ds′ bs′ ss′) w w′ c

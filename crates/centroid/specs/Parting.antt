@@ -12,11 +12,14 @@ use Rattle.paths.specs.Walk.{In, Stands}
 use Rattle.paths.specs.Rooted.{Spans}
 use Rattle.paths.specs.Route.{ptail}
 use Rattle.graph.specs.Limits.{noParent}
-use Rattle.graph.specs.Lent.{listOf}
+use Rattle.graph.specs.Lent.{vertices, listOf}
+use Rattle.graph.specs.Validation.{graphTests}
+use Rattle.graph.specs.Steps.{Begun, GraphPart}
 use Rattle.graph.specs.Work.{Only}
 use Rattle.numbering.specs.RuleOne.{keep}
 use Rattle.centroid.specs.Components.{inComponent}
 use Rattle.centroid.specs.Decomposition.{CentroidAt, DecompositionOf}
+use Rattle.centroid.specs.Calls.{two, TwoLong, TwoOf}
 use Rattle.centroid.specs.Regions.{startAt, parentAt, levelAt, removedFrom, regionsEnd}
 use Rattle.centroid.specs.Search.{LentTree, live}
 
@@ -114,3 +117,12 @@ pub record DecomposeAsks (os ts : List ℕ) (n : ℕ) (up level w : List ℕ) : 
 pub record Decomposed (os ts : List ℕ) (n : ℕ) (up′ level′ w w′ : List ℕ) : Type 0 where
   pub tables : DecompositionOf n (listOf os ts) up′ level′
   pub only : Only 0 (regionsEnd n) w w′
+
+-- the tests 1 and 2 were passed
+pub record GraphAsks (os ts up level w : List ℕ) : Type 0 where
+  pub begun : Begun os ts w
+  pub long : TwoLong (vertices os) (two up level)
+
+-- the tests 3 to 8 and the tables, with work still in use
+abbrev pub GraphDecomposed : (os ts up level w up′ level′ w′ : List ℕ) (c : ℕ) → Type 0
+GraphDecomposed os ts up level w up′ level′ w′ c = GraphPart os ts (graphTests os ts 0) (TwoOf os ts) (two up level) (two up′ level′) w w′ c

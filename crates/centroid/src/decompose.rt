@@ -5,18 +5,19 @@ use crate::regions::QUEUE;
 use crate::regions::REMOVED;
 use crate::regions::STARTS;
 use crate::search::find_centroid;
-use graph::codes::BAD_SIZE;
+use graph::call::begin;
+use graph::call::finish;
 use graph::codes::DONE;
 use graph::codes::NO_PARENT;
-use graph::codes::NO_ROOM;
 use graph::lists::neighbours;
-use graph::lists::sized;
+use graph::lists::vertices;
 use graph::marks::mark;
 use graph::marks::marked;
 use graph::work::zero;
 use validate::judge;
-ghost use Rattle.centroid.specs.Calls.{Decomposes};
-ghost use Rattle.centroid.specs.Parting.{StartAsks, Started, AddAsks, Added, RemoveAsks, Removed, DecomposeAsks, Decomposed};
+ghost use Rattle.graph.specs.Judgement.{Decides};
+ghost use Rattle.centroid.specs.Calls.{two, TwoLong, Decomposes};
+ghost use Rattle.centroid.specs.Parting.{StartAsks, Started, AddAsks, Added, RemoveAsks, Removed, DecomposeAsks, Decomposed, GraphAsks, GraphDecomposed};
 
 // Lets x wait as a start below the centroid c on the given level, where x is not removed. Answers how many starts there are.
 fn add_start(n: usize, x: usize, c: usize, level: u32, tail: usize, work: &mut [u32]) -> usize
@@ -104,6 +105,36 @@ fn decompose(
     }
 }
 
+// Whether both tables have n entries.
+fn long(n: usize, parent: &[u32], level: &[u32]) -> bool
+    ensures { λ r. ⌜ Decides (TwoLong n (two (now (parent .entry)) (now (level .entry)))) r ⌝ }
+{
+    if parent.len() != n {
+        return false;
+    }
+    level.len() == n
+}
+
+// Judges the graph and, where it is a tree, decomposes it.
+fn decompose_graph(
+    offsets: &[u32],
+    targets: &[u32],
+    parent: &mut [u32],
+    level: &mut [u32],
+    work: &mut [u32],
+) -> u32
+    requires { ⌜ GraphAsks (now offsets) (now targets) (now parent) (now level) (now work) ⌝ }
+    ensures { λ r. ⌜ GraphDecomposed (now (offsets .entry)) (now (targets .entry)) (now (parent .entry)) (now (level .entry)) (now (work .entry)) (now (parent .exit)) (now (level .exit)) (now (work .exit)) r ⌝ }
+{
+    let code = judge(offsets, targets, 0, work);
+    if code != DONE {
+        return code;
+    }
+    let n = offsets.len() - 1;
+    decompose(offsets, targets, n, parent, level, work);
+    DONE
+}
+
 // Decomposes the tree of offsets and targets by centroids, the first search starting at 0: parent gets the centroid above each vertex,
 // NO_PARENT for the first one, and level gets their number. The code of the first of the tests 1 to 8 that is not passed, and then no table is
 // written; DONE for a tree. Work needs 8n + E entries, which are zero afterwards. Time O(n log n + E).
@@ -116,26 +147,12 @@ pub fn try_centroid_decomposition(
 ) -> u32
     ensures { λ r. ⌜ Decomposes (now (offsets .entry)) (now (targets .entry)) (now (parent .entry)) (now (level .entry)) (now (work .entry)) (now (parent .exit)) (now (level .exit)) (now (work .exit)) r ⌝ }
 {
-    if !sized(offsets, targets) {
-        return BAD_SIZE;
+    let fits = long(vertices(offsets), parent, level);
+    let begun = begin(offsets, targets, fits, work.len());
+    if begun != DONE {
+        return begun;
     }
-    let n = offsets.len() - 1;
-    if parent.len() != n {
-        return BAD_SIZE;
-    }
-    if level.len() != n {
-        return BAD_SIZE;
-    }
-    let room = 8 * n + targets.len();
-    if work.len() < room {
-        return NO_ROOM;
-    }
-    let code = judge(offsets, targets, 0, work);
-    if code != DONE {
-        zero(work, 0, room);
-        return code;
-    }
-    decompose(offsets, targets, n, parent, level, work);
-    zero(work, 0, room);
-    DONE
+    let code = decompose_graph(offsets, targets, parent, level, work);
+    finish(offsets, targets, work);
+    code
 }

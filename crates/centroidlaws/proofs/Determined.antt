@@ -2,65 +2,56 @@
 use Prim.Native.Nat.{ℕ, _+_, _≤_}
 use native.Mathlib.Omega.{arith}
 use native.Mathlib.Decide.{ℕ-discrete}
-use mathlib.Core.Path.{_≡_, sym, ap, subst, _∙_}
+use mathlib.Core.Path.{_≡_, sym, ap, _∙_}
 use mathlib.Core.Logic.{by-cases}
 use mathlib.Core.List.{List, [], _∷_, _++_}
 use lib.ListN.{length, drop}
 use Rattle.sums.specs.Sum.{at, sum}
 use Rattle.graph.specs.Codes.{done, noRoom}
-use Rattle.graph.specs.Judgement.{Test, test, First}
+use Rattle.graph.specs.Judgement.{test, First}
 use Rattle.graph.specs.Lent.{vertices, listOf}
 use Rattle.graph.specs.Validation.{graphTests}
-use Rattle.graph.proofs.Judging.{first-one, leaves-one, sized?}
+use Rattle.graph.proofs.Judging.{sized?}
+use Rattle.graph.proofs.Passed.{all-passed, passed-front, passed-sound}
+use Rattle.graph.proofs.Calling.{fits?, graph-call-one}
 use Rattle.centroid.specs.Decomposition.{DecompositionOf}
-use Rattle.centroid.specs.Calls.{Fits, decomposing, Decomposes, Fitting, listing, Front, Lists}
-use Rattle.centroidlaws.proofs.Passed.{all-passed, passed-front, Passed, graph-passed}
+use Rattle.centroid.specs.Calls.{Two, two, TwoLong, TwoOf, decomposing, Decomposes, Fitting, listing, Front, Four, FourOf, Lists}
+use Rattle.centroidlaws.proofs.Passed.{Passed, sound-rooted}
 use Rattle.centroidlaws.proofs.Agreement.{decomposition-one}
 use Rattle.centroidlaws.proofs.SameLists.{lists-one, lists-total}
 
--- whether the sizes are within their limits and the tables of length n
-pub fits? : (os ts up level : List ℕ) → Dec (Fits os ts up level)
-fits? os ts up level =
-    by-cases (sized? os ts)
-    (λ s. by-cases (ℕ-discrete (length up) (vertices os))
-    (λ a. by-cases (ℕ-discrete (length level) (vertices os))
-    (λ b. yes (record { sized = s; up-long = a; level-long = b })) (λ f. no (λ x. f (x .level-long))))
-    (λ f. no (λ x. f (x .up-long))))
-    (λ f. no (λ x. f (x .sized)))
+-- whether both tables have n entries
+two-long? : (n : ℕ) (t : Two) → Dec (TwoLong n t)
+two-long? n t =
+    by-cases (ℕ-discrete (length (t .up)) n)
+    (λ a. by-cases (ℕ-discrete (length (t .level)) n) (λ b. yes (record { up-long = a; level-long = b })) (λ f. no (λ x. f (x .level-long))))
+    (λ f. no (λ x. f (x .up-long)))
 
 -- a decomposition is written only for a tree
 pub decomposing-passed : (os ts up level : List ℕ) (room : ℕ) → First (decomposing os ts up level room) done → Passed os ts
 decomposing-passed os ts up level room f =
-    graph-passed os ts (all-passed (decomposing os ts up level room) (omega arith) f .1 .1)
+    sound-rooted (passed-sound os ts 0 (all-passed (decomposing os ts up level room) (omega arith) f .1 .1))
 
 -- two results that `Decomposes` allows coincide: the code, both tables, and all of work
 pub decomposes-one :
     (os ts up level : List ℕ) {w up₁ level₁ w₁ up₂ level₂ w₂ : List ℕ} {c₁ c₂ : ℕ}
     → Decomposes os ts up level w up₁ level₁ w₁ c₁ → Decomposes os ts up level w up₂ level₂ w₂ c₂
     → (c₁ ≡ c₂) × (up₁ ≡ up₂) × (level₁ ≡ level₂) × (w₁ ≡ w₂)
-decomposes-one os ts up level {w} {up₁} {level₁} {w₁} {up₂} {level₂} {w₂} {c₁} {c₂} p q =
-    (same, tables .0, tables .1, leaves-one (fits? os ts up level) (p .work) (q .work))
+decomposes-one os ts up level {w} p q =
+    let e = graph-call-one (fits? os ts (two-long? (vertices os) (two up level))) one p q in
+    (e .0, ap (λ (t : Two). t .up) (e .1), ap (λ (t : Two). t .level) (e .1), e .2)
   where
-    same : c₁ ≡ c₂
-    same = first-one (decomposing os ts up level (length w)) (p .code) (q .code)
-
-    written : c₁ ≡ done → (up₁ ≡ up₂) × (level₁ ≡ level₂)
-    written z =
-        let g = decomposing-passed os ts up level (length w) (subst (First (decomposing os ts up level (length w))) z (p .code)) in
-        decomposition-one (g .listed .spans) (p .written z) (q .written (sym same ∙ z))
-
-    tables : (up₁ ≡ up₂) × (level₁ ≡ level₂)
-    tables = by-cases (ℕ-discrete c₁ done) written (λ f.
-        let a = p .refused f in
-        let b = q .refused (λ z. f (same ∙ z)) in
-        (a .0 ∙ sym (b .0), a .1 ∙ sym (b .1)))
+    one : {t t′ : Two} → First (decomposing os ts up level (length w)) done → TwoOf os ts t → TwoOf os ts t′ → t ≡ t′
+    one f a b =
+        let e = decomposition-one (decomposing-passed os ts up level (length w) f .listed .spans) a b in
+        λ i. record { up = e .0 i; level = e .1 i }
 
 -- lists are written only for a tree
 pub listing-passed : (os ts vs ds bs ss : List ℕ) (room : ℕ) → First (listing os ts vs ds bs ss room) done → Passed os ts
 listing-passed os ts vs ds bs ss room f =
-    graph-passed os ts
+    sound-rooted (passed-sound os ts 0
     (passed-front (graphTests os ts 0) (test noRoom (Fitting os ts vs ds bs) ∷ [])
-    (all-passed (listing os ts vs ds bs ss room) (omega arith) f .1 .1))
+    (all-passed (listing os ts vs ds bs ss room) (omega arith) f .1 .1)))
 
 -- lists that fit leave room for the sum of level + 1
 pub fitting-total :
@@ -77,25 +68,22 @@ pub lists-call-one :
     (os ts vs ds bs ss : List ℕ) {w vs₁ ds₁ bs₁ ss₁ w₁ vs₂ ds₂ bs₂ ss₂ w₂ : List ℕ} {c₁ c₂ : ℕ}
     → Lists os ts vs ds bs ss w vs₁ ds₁ bs₁ ss₁ w₁ c₁ → Lists os ts vs ds bs ss w vs₂ ds₂ bs₂ ss₂ w₂ c₂
     → (c₁ ≡ c₂) × (vs₁ ≡ vs₂) × (ds₁ ≡ ds₂) × (bs₁ ≡ bs₂) × (ss₁ ≡ ss₂) × (w₁ ≡ w₂)
-lists-call-one os ts vs ds bs ss {w} {vs₁} {ds₁} {bs₁} {ss₁} {w₁} {vs₂} {ds₂} {bs₂} {ss₂} {w₂} {c₁} {c₂} p q =
-    (same, lists .0, lists .1, lists .2, lists .3, leaves-one (sized? os ts) (p .work) (q .work))
+lists-call-one os ts vs ds bs ss {w} p q =
+    let e = graph-call-one (sized? os ts) one p q in
+    let m = e .1 in (
+      e .0,
+      ap (λ (m : Four). m .vertices) m,
+      ap (λ (m : Four). m .distances) m,
+      ap (λ (m : Four). m .branches) m,
+      ap (λ (m : Four). m .starts) m,
+      e .2,
+    )
   where
-    tests : List Test
-    tests = listing os ts vs ds bs ss (length w)
-
-    same : c₁ ≡ c₂
-    same = first-one tests (p .code) (q .code)
-
-    written : c₁ ≡ done → (vs₁ ≡ vs₂) × (ds₁ ≡ ds₂) × (bs₁ ≡ bs₂) × (ss₁ ≡ ss₂)
-    written z =
-        let g = listing-passed os ts vs ds bs ss (length w) (subst (First tests) z (p .code)) in
-        let a = p .written z in
-        let b = q .written (sym same ∙ z) in
-        let e = lists-one (g .listed .spans) (a .4) (b .4) in
-        (front-one vs (e .0) (a .5) (b .5), front-one ds (e .1) (a .6) (b .6), front-one bs (e .2) (a .7) (b .7), front-one ss (e .3) (a .8) (b .8))
-
-    lists : (vs₁ ≡ vs₂) × (ds₁ ≡ ds₂) × (bs₁ ≡ bs₂) × (ss₁ ≡ ss₂)
-    lists = by-cases (ℕ-discrete c₁ done) written (λ f.
-        let a = p .refused f in
-        let b = q .refused (λ z. f (same ∙ z)) in
-        (a .0 ∙ sym (b .0), a .1 ∙ sym (b .1), a .2 ∙ sym (b .2), a .3 ∙ sym (b .3)))
+    one : {m m′ : Four} → First (listing os ts vs ds bs ss (length w)) done → FourOf os ts vs ds bs ss m → FourOf os ts vs ds bs ss m′ → m ≡ m′
+    one {m} {m′} f a b =
+        let e = lists-one (listing-passed os ts vs ds bs ss (length w) f .listed .spans) (a .4) (b .4) in
+        let v : m .vertices ≡ m′ .vertices = front-one vs (e .0) (a .5) (b .5) in
+        let d : m .distances ≡ m′ .distances = front-one ds (e .1) (a .6) (b .6) in
+        let r : m .branches ≡ m′ .branches = front-one bs (e .2) (a .7) (b .7) in
+        let s : m .starts ≡ m′ .starts = front-one ss (e .3) (a .8) (b .8) in
+        λ i. record { vertices = v i; distances = d i; branches = r i; starts = s i }

@@ -1,19 +1,22 @@
--- What the functions that list one component, and all of them, ask and answer.
+-- What the functions that list one component, all of them, and those of a lent graph ask and answer.
 use Prim.Native.Nat.{ℕ, _+_, _≤_, _<_, _^_}
 use mathlib.Core.Path.{_≡_}
-use mathlib.Core.List.{List, map}
+use mathlib.Core.List.{List, _∷_, map}
 use lib.ListN.{length}
 use lib.Seq.{sets}
 use Rattle.sums.specs.Sum.{at, howMany}
 use Rattle.paths.specs.Walk.{Stands}
 use Rattle.paths.specs.Rooted.{Spans}
 use Rattle.paths.specs.Route.{ptail}
-use Rattle.graph.specs.Lent.{listOf}
+use Rattle.graph.specs.Codes.{noRoom}
+use Rattle.graph.specs.Judgement.{test}
+use Rattle.graph.specs.Lent.{vertices, listOf}
+use Rattle.graph.specs.Steps.{GraphPart}
 use Rattle.graph.specs.Work.{Only}
 use Rattle.centroid.specs.Components.{componentOf}
 use Rattle.centroid.specs.Decomposition.{DecompositionOf}
 use Rattle.centroid.specs.Lists.{Breadth, branchOf, ListsOf}
-use Rattle.centroid.specs.Calls.{Front}
+use Rattle.centroid.specs.Calls.{Front, four, FourOf, listTests}
 use Rattle.centroid.specs.Regions.{queueFrom, metFrom, workEnd}
 use Rattle.centroid.specs.Search.{LentTree}
 use Rattle.components.specs.Levels.{levelsIn, totalIn}
@@ -72,3 +75,8 @@ pub record AllListed (os ts : List ℕ) (n : ℕ) (vs ds bs ss w vs′ ds′ bs�
   pub branches : Front l₃ bs bs′
   pub starts : Front l₄ ss ss′
   pub only : Only (queueFrom n) (metFrom n) w w′
+
+-- the tests behind the limits and the room of work, that of the starts first, and the lists, with work still in use
+abbrev pub GraphListed : (os ts vs ds bs ss w vs′ ds′ bs′ ss′ w′ : List ℕ) (c : ℕ) → Type 0
+GraphListed os ts vs ds bs ss w vs′ ds′ bs′ ss′ w′ c =
+    GraphPart os ts (test noRoom (vertices os + 1 ≤ length ss) ∷ listTests os ts vs ds bs) (FourOf os ts vs ds bs ss) (four vs ds bs ss) (four vs′ ds′ bs′ ss′) w w′ c

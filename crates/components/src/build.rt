@@ -2,16 +2,17 @@
 use crate::levels::find_levels;
 use crate::levels::total_room;
 use crate::listing::list_all;
-use graph::codes::BAD_SIZE;
+use graph::call::begin;
+use graph::call::finish;
 use graph::codes::DONE;
 use graph::codes::NO_ROOM;
-use graph::lists::sized;
-use graph::work::zero;
 use validate::judge;
 ghost use Prim.Native.Nat.{_≤_};
 ghost use lib.ListN.{length};
 ghost use Rattle.graph.specs.Judgement.{Decides};
+ghost use Rattle.graph.specs.Steps.{Begun};
 ghost use Rattle.centroid.specs.Calls.{Lists};
+ghost use Rattle.components.specs.Listing.{GraphListed};
 
 // Whether each of the three lists has room for the total.
 fn fitting(total: usize, vertices: &[u32], distances: &[u32], branches: &[u32]) -> bool
@@ -24,6 +25,45 @@ fn fitting(total: usize, vertices: &[u32], distances: &[u32], branches: &[u32]) 
         return false;
     }
     total <= branches.len()
+}
+
+// Tests the room of starts, judges the graph and, where it is a tree and the lists fit, writes them.
+fn list_graph(
+    offsets: &[u32],
+    targets: &[u32],
+    vertices: &mut [u32],
+    distances: &mut [u32],
+    branches: &mut [u32],
+    starts: &mut [u32],
+    work: &mut [u32],
+) -> u32
+    requires { ⌜ Begun (now offsets) (now targets) (now work) ⌝ }
+    ensures { λ r. ⌜ GraphListed (now (offsets .entry)) (now (targets .entry)) (now (vertices .entry)) (now (distances .entry)) (now (branches .entry)) (now (starts .entry)) (now (work .entry)) (now (vertices .exit)) (now (distances .exit)) (now (branches .exit)) (now (starts .exit)) (now (work .exit)) r ⌝ }
+{
+    let n = offsets.len() - 1;
+    if starts.len() < n + 1 {
+        return NO_ROOM;
+    }
+    let code = judge(offsets, targets, 0, work);
+    if code != DONE {
+        return code;
+    }
+    find_levels(offsets, targets, n, work);
+    let total = total_room(n, work);
+    if !fitting(total, vertices, distances, branches) {
+        return NO_ROOM;
+    }
+    list_all(
+        offsets,
+        targets,
+        n,
+        vertices,
+        distances,
+        branches,
+        starts,
+        work,
+    );
+    DONE
 }
 
 // Lists the components of the tree of offsets and targets, decomposed by centroids from start 0: for c = 0 to n - 1 the vertices of c's component
@@ -42,39 +82,19 @@ pub fn component_lists(
 ) -> u32
     ensures { λ r. ⌜ Lists (now (offsets .entry)) (now (targets .entry)) (now (vertices .entry)) (now (distances .entry)) (now (branches .entry)) (now (starts .entry)) (now (work .entry)) (now (vertices .exit)) (now (distances .exit)) (now (branches .exit)) (now (starts .exit)) (now (work .exit)) r ⌝ }
 {
-    if !sized(offsets, targets) {
-        return BAD_SIZE;
+    let begun = begin(offsets, targets, true, work.len());
+    if begun != DONE {
+        return begun;
     }
-    let n = offsets.len() - 1;
-    let room = 8 * n + targets.len();
-    if work.len() < room {
-        return NO_ROOM;
-    }
-    if starts.len() < n + 1 {
-        zero(work, 0, room);
-        return NO_ROOM;
-    }
-    let code = judge(offsets, targets, 0, work);
-    if code != DONE {
-        zero(work, 0, room);
-        return code;
-    }
-    find_levels(offsets, targets, n, work);
-    let total = total_room(n, work);
-    if !fitting(total, vertices, distances, branches) {
-        zero(work, 0, room);
-        return NO_ROOM;
-    }
-    list_all(
+    let code = list_graph(
         offsets,
         targets,
-        n,
         vertices,
         distances,
         branches,
         starts,
         work,
     );
-    zero(work, 0, room);
-    DONE
+    finish(offsets, targets, work);
+    code
 }

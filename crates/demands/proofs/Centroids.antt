@@ -19,7 +19,7 @@ use Rattle.centroid.specs.Decomposition.{DecompositionOf}
 use Rattle.centroid.specs.Lists.{branchOf, joined, ListsOf}
 use Rattle.centroid.specs.Calls.{decomposing, Decomposes, listing, Front, Lists}
 use Rattle.centroidlaws.proofs.Before.{Listed}
-use Rattle.centroidlaws.proofs.Passed.{all-passed}
+use Rattle.graph.proofs.Passed.{all-passed}
 use Rattle.centroidlaws.proofs.Parts.{no-parent-above, parent-part}
 use Rattle.centroidlaws.proofs.Halving.{level-bound}
 use Rattle.centroidlaws.proofs.SameLists.{joined-map, list-holds, lists-total}

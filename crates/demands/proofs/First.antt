@@ -149,9 +149,7 @@ lists-past {os} {ts} {vs} {ds} {bs} {ss} {w} {ss′ = ss′} p =
 -- a refusal writes no table and no list
 nothing-written : NothingWritten
 nothing-written = record {
-  try-hld = λ p h. p .refused h;
-  decomposition = λ p h. p .refused h;
-  component-lists = λ p h. p .refused h;
+  graph-calls = λ p h. p .refused h;
   ranges = λ {a} p h. ranges-kept a p h;
   range-records = λ {a} p h. records-kept a p h;
 }
@@ -162,7 +160,7 @@ past-count = record { ranges = λ {a} p. ranges-past a p; range-records = λ {a}
 
 -- work is left as 01 says
 work-left : WorkLeft
-work-left = record { validate-tree = λ p. p .work; try-hld = λ p. p .work; decomposition = λ p. p .work; component-lists = λ p. p .work }
+work-left = record { graph-calls = λ p. p .work }
 
 -- every contract determines its call's results
 determined : Determined

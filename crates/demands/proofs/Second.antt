@@ -1,5 +1,5 @@
 -- Condition 2 holds of every result that the calls' contracts allow.
-use Prim.Native.Nat.{ℕ, _<_}
+use Prim.Native.Nat.{ℕ, _≤_}
 use native.Mathlib.Omega.{arith}
 use mathlib.Core.Path.{refl}
 use mathlib.Core.List.{List, [], _∷_}
@@ -7,79 +7,66 @@ use lib.ListN.{length}
 use Rattle.paths.specs.Tree.{Tree}
 use Rattle.graph.specs.Codes.{done, noRoom}
 use Rattle.graph.specs.Judgement.{test}
-use Rattle.graph.specs.Lent.{vertices, listOf, Offsets, Targets}
-use Rattle.graph.specs.Validation.{validation, graphTests}
-use Rattle.validate.proofs.Meaning.{tree-reached}
+use Rattle.graph.specs.Lent.{vertices, listOf}
+use Rattle.graph.specs.Validation.{Sized, roomOf, validation, graphTests}
+use Rattle.graph.proofs.Passed.{AllPassed, done-exactly, passed-front, passed-back, passed-join, passed-sound, sound-passed}
 use Rattle.tables.specs.Tables.{Six}
 use Rattle.hld.specs.Build.{building, Builds}
 use Rattle.centroid.specs.Calls.{decomposing, Fitting, listing}
-use Rattle.centroidlaws.proofs.Passed.{AllPassed}
-use Rattle.demands.specs.Second.{Accepted, SecondDemand}
-use Rattle.demands.proofs.Passed.{passed-join, done-exactly, build-given}
+use Rattle.demands.specs.Second.{InRange, Accepted, SecondDemand}
+use Rattle.demands.proofs.Passed.{build-given}
 use Rattle.demands.proofs.Numbers.{entries, answers}
 use Rattle.demands.proofs.Fitting.{lists-room}
 use Rattle.demands.proofs.Centroids.{centroids, component-lists}
 
--- the tests that read the graph are passed by sound lists of a tree
-tree-passes : {os ts : List ℕ} {root : ℕ} → Offsets os ts → Targets os ts → root < vertices os → Tree (vertices os) (listOf os ts)
-    → AllPassed (graphTests os ts root)
-tree-passes {os} {ts} {root} o e r t = (o, (e, (r, (t .symmetric, (tree-reached (vertices os) (listOf os ts) root r t, (t, tt))))))
+-- what the tests say of lists that pass them
+in-range : {os ts : List ℕ} {root room : ℕ} → Sized os ts → roomOf os ts ≤ room → AllPassed (graphTests os ts root)
+    → InRange os ts root room × Tree (vertices os) (listOf os ts)
+in-range {os} {ts} {root} s r p =
+    let g = passed-sound os ts root p in
+    (record { sized = s; room-enough = r; offsets = g .offsets; targets = g .targets; root-below = g .root-below }, g .tree)
+
+-- the tests that read the graph are passed by lists in range of a tree
+tree-passes : {os ts : List ℕ} {root room : ℕ} → InRange os ts root room → Tree (vertices os) (listOf os ts) → AllPassed (graphTests os ts root)
+tree-passes {os} {ts} {root} i t =
+    sound-passed os ts root (record { offsets = i .offsets; targets = i .targets; root-below = i .root-below; tree = t })
 
 -- 0 is answered exactly for trees
 accepted : Accepted
 accepted = record {
   validate-tree = λ {os} {ts} {w} {root = root} p.
       let d = done-exactly (validation os ts root (length w)) (omega arith) (p .code) in (
-        λ z.
-            let a = d .0 z in
-            let g = a .1 .1 in
-            (record { sized = a .0; room-enough = a .1 .0; offsets = g .0; targets = g .1 .0; root-below = g .1 .1 .0 }, g .1 .1 .1 .1 .1 .0),
-        λ h. let i = h .0 in d .1 (i .sized, (i .room-enough, tree-passes (i .offsets) (i .targets) (i .root-below) (h .1))),
+        λ z. let a = d .0 z in in-range (a .0) (a .1 .0) (a .1 .1),
+        λ h. d .1 (h .0 .sized, (h .0 .room-enough, tree-passes (h .0) (h .1))),
       );
   try-hld = λ {os} {ts} {w} {root = root} {t = t} p.
       let d = done-exactly (building os ts root t (length w)) (omega arith) (p .code) in (
         λ z.
             let a = d .0 z in
-            let g = a .1 .1 in (
-              record { sized = a .0 .sized; room-enough = a .1 .0; offsets = g .0; targets = g .1 .0; root-below = g .1 .1 .0 },
-              a .0 .tables,
-              g .1 .1 .1 .1 .1 .0,
-            ),
-        λ h.
-            let i = h .0 in
-            d .1 (record { sized = i .sized; tables = h .1 }, (i .room-enough, tree-passes (i .offsets) (i .targets) (i .root-below) (h .2))),
+            let g = in-range (a .0 .sized) (a .1 .0) (a .1 .1) in
+            (g .0, a .0 .tables, g .1),
+        λ h. d .1 (record { sized = h .0 .sized; tables = h .1 }, (h .0 .room-enough, tree-passes (h .0) (h .2))),
       );
   decomposition = λ {os} {ts} {up} {level} {w} p.
       let d = done-exactly (decomposing os ts up level (length w)) (omega arith) (p .code) in (
         λ z.
             let a = d .0 z in
-            let g = a .1 .1 in (
-              record { sized = a .0 .sized; room-enough = a .1 .0; offsets = g .0; targets = g .1 .0; root-below = g .1 .1 .0 },
-              a .0 .up-long,
-              a .0 .level-long,
-              g .1 .1 .1 .1 .1 .0,
-            ),
+            let g = in-range (a .0 .sized) (a .1 .0) (a .1 .1) in
+            (g .0, a .0 .tables .up-long, a .0 .tables .level-long, g .1),
         λ h.
-            let i = h .0 in
             d .1 (
-              record { sized = i .sized; up-long = h .1; level-long = h .2 },
-              (i .room-enough, tree-passes (i .offsets) (i .targets) (i .root-below) (h .3)),
+              record { sized = h .0 .sized; tables = record { up-long = h .1; level-long = h .2 } },
+              (h .0 .room-enough, tree-passes (h .0) (h .3)),
             ),
       );
   component-lists = λ {os} {ts} {vs} {ds} {bs} {ss} {w} p.
-      let d = done-exactly (listing os ts vs ds bs ss (length w)) (omega arith) (p .code) in (
+      let d = done-exactly (listing os ts vs ds bs ss (length w)) (omega arith) (p .code) in
+      let last = test noRoom (Fitting os ts vs ds bs) ∷ [] in (
         λ z.
             let a = d .0 z in
-            let g = a .1 .1 in (
-              record { sized = a .0; room-enough = a .1 .0 .0; offsets = g .0; targets = g .1 .0; root-below = g .1 .1 .0 },
-              a .1 .0 .1,
-              g .1 .1 .1 .1 .1 .0,
-              g .1 .1 .1 .1 .1 .1 .0,
-            ),
-        λ h.
-            let i = h .0 in
-            let g = tree-passes (i .offsets) (i .targets) (i .root-below) (h .2) in
-            d .1 (i .sized, ((i .room-enough, h .1), passed-join (graphTests os ts 0) (test noRoom (Fitting os ts vs ds bs) ∷ []) g (h .3, tt))),
+            let g = in-range (a .0) (a .1 .0 .0) (passed-front (graphTests os ts 0) last (a .1 .1)) in
+            (g .0, a .1 .0 .1, g .1, passed-back (graphTests os ts 0) last (a .1 .1) .0),
+        λ h. d .1 (h .0 .sized, ((h .0 .room-enough, h .1), passed-join (graphTests os ts 0) last (tree-passes (h .0) (h .2)) (h .3, tt))),
       );
   lists-room = lists-room;
 }

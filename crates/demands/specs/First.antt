@@ -1,7 +1,8 @@
 -- Tender, condition 1: "Every public call ends without a fault on every input, and gives the refusal that document 01 fixes, with the stated memory
 -- afterwards."
 -- No public call has a `requires`. Its proof then says that it ends without a fault on every input and that its contract holds; so there is nothing
--- to state of that here. The rest of the sentence is stated of the contracts.
+-- to state of that here. The rest of the sentence is stated of the contracts. The calls that take a graph (`Validates`, `Builds`, `Decomposes`, `Lists`)
+-- have what they have in common in one contract, `GraphCall`.
 use Prim.Native.Nat.{ℕ, _+_, _*_, _<_}
 use mathlib.Core.Path.{_≡_}
 use mathlib.Core.Logic.{_≢_, _↔_}
@@ -10,11 +11,11 @@ use mathlib.Core.List.{List, []}
 use lib.ListN.{length, drop}
 use Rattle.sums.specs.Sum.{at}
 use Rattle.graph.specs.Codes.{done, noRoom}
-use Rattle.graph.specs.Judgement.{First}
+use Rattle.graph.specs.Judgement.{Test, First}
 use Rattle.graph.specs.Lent.{vertices}
-use Rattle.graph.specs.Validation.{Sized, roomOf, validation, Leaves, Validates}
+use Rattle.graph.specs.Validation.{roomOf, opening, Leaves, GraphCall, validation, Validates}
 use Rattle.tables.specs.Tables.{Six}
-use Rattle.hld.specs.Build.{building, Builds, Fits as FitsSix}
+use Rattle.hld.specs.Build.{building, Builds}
 use Rattle.climb.specs.Asked.{sizeOf, tables?, vertices?, asked}
 use Rattle.climb.specs.Answers.{answerCode, answerValues, intervalCode, intervalValues}
 use Rattle.climb.specs.declared.answers.Refusal.{Refusal}
@@ -27,7 +28,7 @@ use Rattle.ranges.specs.declared.kinds.PathRange.{PathRange}
 use Rattle.ranges.specs.declared.kinds.Listed.{Listed}
 use Rattle.ranges.specs.declared.kinds.Listed.the-variants.{Count}
 use Rattle.records.specs.Records.{RecordedAs}
-use Rattle.centroid.specs.Calls.{Fits, decomposing, Decomposes, listing, Lists}
+use Rattle.centroid.specs.Calls.{decomposing, Decomposes, listing, Lists}
 
 -- "gives the refusal that document 01 fixes": the code of the first test, in 01's order, that is not passed
 pub record Refusals : Type 1 where
@@ -54,13 +55,11 @@ pub record Refusals : Type 1 where
   pub no-count : (a : Listed) → listedCode a ≢ done → listedValues a ≡ []
 
 -- "It writes no table and no list."
-pub record NothingWritten : Type 0 where
-  pub try-hld : {os ts w w′ : List ℕ} {root c : ℕ} {t t′ : Six} → Builds os ts root t w t′ w′ c → c ≢ done → t′ ≡ t
-  pub decomposition :
-      {os ts up level w up′ level′ w′ : List ℕ} {c : ℕ} → Decomposes os ts up level w up′ level′ w′ c → c ≢ done → (up′ ≡ up) × (level′ ≡ level)
-  pub component-lists :
-      {os ts vs ds bs ss w vs′ ds′ bs′ ss′ w′ : List ℕ} {c : ℕ} → Lists os ts vs ds bs ss w vs′ ds′ bs′ ss′ w′ c
-      → c ≢ done → (vs′ ≡ vs) × (ds′ ≡ ds) × (bs′ ≡ bs) × (ss′ ≡ ss)
+pub record NothingWritten : Type 1 where
+  -- of every call that takes a graph: what it left in the memory that it was lent is what was there
+  pub graph-calls :
+      {M : Type 0} {os ts w w′ : List ℕ} {fits : Type 0} {tests : List Test} {Written : M → Type 0} {lent left : M} {c : ℕ}
+      → GraphCall os ts fits tests Written lent left w w′ c → c ≢ done → left ≡ lent
   pub ranges : {a : Answered} {lent left : List ℕ} {r : Listed} → ListedAs a lent left r → listedCode r ≢ done → left ≡ lent
   pub range-records : {a : Answered} {lent left : List PathRange} {r : Listed} → RecordedAs a lent left r → listedCode r ≢ done → left ≡ lent
 
@@ -77,13 +76,11 @@ pub record PastCount : Type 0 where
 
 -- "Once the work room was long enough, the first 8n+E entries of work are zero afterwards, on any answer; the rest of work, and all of it before that
 -- test, is unchanged."
-pub record WorkLeft : Type 0 where
-  pub validate-tree : {os ts w w′ : List ℕ} {root c : ℕ} → Validates os ts root w w′ c → Leaves (Sized os ts) (roomOf os ts) w w′
-  pub try-hld : {os ts w w′ : List ℕ} {root c : ℕ} {t t′ : Six} → Builds os ts root t w t′ w′ c → Leaves (FitsSix os ts t) (roomOf os ts) w w′
-  pub decomposition :
-      {os ts up level w up′ level′ w′ : List ℕ} {c : ℕ} → Decomposes os ts up level w up′ level′ w′ c → Leaves (Fits os ts up level) (roomOf os ts) w w′
-  pub component-lists :
-      {os ts vs ds bs ss w vs′ ds′ bs′ ss′ w′ : List ℕ} {c : ℕ} → Lists os ts vs ds bs ss w vs′ ds′ bs′ ss′ w′ c → Leaves (Sized os ts) (roomOf os ts) w w′
+pub record WorkLeft : Type 1 where
+  -- by every call that takes a graph; the test before that of the room is its first, that all fits
+  pub graph-calls :
+      {M : Type 0} {os ts w w′ : List ℕ} {fits roomy : Type 0} {rest : List Test} {Written : M → Type 0} {lent left : M} {c : ℕ}
+      → GraphCall os ts fits (opening fits roomy rest) Written lent left w w′ c → Leaves fits (roomOf os ts) w w′
 
 -- 01, "How much a contract must tie down": "That two results allowed by it coincide is proved".
 pub record Determined : Type 1 where

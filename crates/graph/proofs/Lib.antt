@@ -3,3 +3,5 @@ pub mod Neighbours
 pub mod Bits
 pub mod Judging
 pub mod Limits
+pub mod Passed
+pub mod Calling

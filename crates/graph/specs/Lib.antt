@@ -5,3 +5,4 @@ pub mod Lent
 pub mod Validation
 pub mod Marks
 pub mod Work
+pub mod Steps

@@ -6,7 +6,7 @@ ghost use mathlib.Core.Bool.{true};
 ghost use mathlib.Core.List.{[]};
 ghost use Prim.Native.Nat.{_≤_};
 ghost use Rattle.graph.specs.Judgement.{Decides};
-ghost use Rattle.graph.specs.Lent.{vertices, listOf, Offsets, Targets};
+ghost use Rattle.graph.specs.Lent.{vertices as verticesOf, listOf, Offsets, Targets};
 ghost use Rattle.graph.specs.Validation.{Sized};
 
 // The empty part of a slice.
@@ -14,6 +14,16 @@ fn none(targets: &[u32]) -> &[u32]
     ensures { λ r. ⌜ now r ≡ [] ⌝ }
 {
     &targets[..0]
+}
+
+// The number of vertices that these offsets speak of, 0 where there are none.
+pub fn vertices(offsets: &[u32]) -> usize
+    ensures { λ r. ⌜ r ≡ verticesOf (now (offsets .entry)) ⌝ }
+{
+    if offsets.len() == 0 {
+        return 0;
+    }
+    offsets.len() - 1
 }
 
 // The list of the vertex u as a part of the caller's targets: the targets from offset u up to offset u + 1, and empty where u or its
@@ -64,7 +74,7 @@ fn still(held: bool, a: usize, b: usize) -> bool
 
 // Whether the first offset is 0, no offset falls and the last is the number of targets.
 pub fn sound_offsets(offsets: &[u32], targets: &[u32]) -> bool
-    requires { ⌜ 1 ≤ vertices (now offsets) ⌝ }
+    requires { ⌜ 1 ≤ verticesOf (now offsets) ⌝ }
     ensures { λ r. ⌜ Decides (Offsets (now (offsets .entry)) (now (targets .entry))) r ⌝ }
 {
     let n = offsets.len() - 1;
@@ -85,7 +95,7 @@ pub fn sound_offsets(offsets: &[u32], targets: &[u32]) -> bool
 
 // Whether every target is a vertex.
 pub fn sound_targets(offsets: &[u32], targets: &[u32]) -> bool
-    requires { ⌜ 1 ≤ vertices (now offsets) ⌝ }
+    requires { ⌜ 1 ≤ verticesOf (now offsets) ⌝ }
     ensures { λ r. ⌜ Decides (Targets (now (offsets .entry)) (now (targets .entry))) r ⌝ }
 {
     let n = offsets.len() - 1;

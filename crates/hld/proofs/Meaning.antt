@@ -9,14 +9,13 @@ use lib.ListN.{length}
 use lib.Seq.{ext-getD}
 use Rattle.sums.specs.Sum.{at}
 use Rattle.sums.proofs.Sums.{equal-or-not}
-use Rattle.graph.specs.Codes.{done}
 use Rattle.graph.specs.Lent.{vertices}
-use Rattle.graph.proofs.Judging.{first-one, leaves-one, sized?}
+use Rattle.graph.proofs.Calling.{fits?, graph-call-one}
 use Rattle.numbering.specs.Ruled.{Ruled}
 use Rattle.numbering.proofs.SameTree.{same-dep, same-par}
 use Rattle.numbering.proofs.Same.{same-size, same-id, same-head, same-order}
 use Rattle.tables.specs.Tables.{Six, Long, NumberingOf, kidsByRuleOne}
-use Rattle.hld.specs.Build.{Fits, building, Builds}
+use Rattle.hld.specs.Build.{Builds}
 
 -- the tables number the tree by rule 1
 pub tables-ruled : {n : ℕ} {A : ℕ → List ℕ} {root : ℕ} {t : Six} → NumberingOf n A root t (kidsByRuleOne A t)
@@ -55,37 +54,24 @@ tables-one {n} {A} {root} {t} {t′} b b′ =
     sizes : t .size ≡ t′ .size
     sizes = lists-one n (t .size) (t′ .size) (b .long .size) (b′ .long .size) (λ v h. same-size (tables-ruled b) (tables-ruled b′) h)
 
--- whether the sizes and the tables fit
-pub fits? : (os ts : List ℕ) (t : Six) → Dec (Fits os ts t)
-fits? os ts t =
-    by-cases (sized? os ts)
-    (λ s. by-cases (long? (vertices os)) (λ l. yes (record { sized = s; tables = l })) (λ d. no (λ f. d (f .tables))))
-    (λ d. no (λ f. d (f .sized)))
-  where
-    long? : (n : ℕ) → Dec (Long n t)
-    long? n =
-        by-cases (ℕ-discrete (length (t .parent)) n)
-        (λ a. by-cases (ℕ-discrete (length (t .depth)) n)
-        (λ b. by-cases (ℕ-discrete (length (t .head)) n)
-        (λ c. by-cases (ℕ-discrete (length (t .id)) n)
-        (λ d. by-cases (ℕ-discrete (length (t .order)) n)
-        (λ e. by-cases (ℕ-discrete (length (t .size)) n)
-        (λ f. yes (record { parent = a; depth = b; head = c; id = d; order = e; size = f }))
-        (λ x. no (λ l. x (l .size))))
-        (λ x. no (λ l. x (l .order))))
-        (λ x. no (λ l. x (l .id))))
-        (λ x. no (λ l. x (l .head))))
-        (λ x. no (λ l. x (l .depth))))
-        (λ x. no (λ l. x (l .parent)))
+-- whether each table has n entries
+pub long? : (n : ℕ) (t : Six) → Dec (Long n t)
+long? n t =
+    by-cases (ℕ-discrete (length (t .parent)) n)
+    (λ a. by-cases (ℕ-discrete (length (t .depth)) n)
+    (λ b. by-cases (ℕ-discrete (length (t .head)) n)
+    (λ c. by-cases (ℕ-discrete (length (t .id)) n)
+    (λ d. by-cases (ℕ-discrete (length (t .order)) n)
+    (λ e. by-cases (ℕ-discrete (length (t .size)) n)
+    (λ f. yes (record { parent = a; depth = b; head = c; id = d; order = e; size = f }))
+    (λ x. no (λ l. x (l .size))))
+    (λ x. no (λ l. x (l .order))))
+    (λ x. no (λ l. x (l .id))))
+    (λ x. no (λ l. x (l .head))))
+    (λ x. no (λ l. x (l .depth))))
+    (λ x. no (λ l. x (l .parent)))
 
 -- two results that the contract allows coincide: the code, the tables and all of work
 pub builds-one : (os ts : List ℕ) (root : ℕ) {t t₁ t₂ : Six} {w w₁ w₂ : List ℕ} {c₁ c₂ : ℕ} → Builds os ts root t w t₁ w₁ c₁ → Builds os ts root t w t₂ w₂ c₂
     → (c₁ ≡ c₂) × (t₁ ≡ t₂) × (w₁ ≡ w₂)
-builds-one os ts root {t} {t₁} {t₂} {w} {w₁} {w₂} {c₁} {c₂} p q =
-    let same : c₁ ≡ c₂ = first-one (building os ts root t (length w)) (p .code) (q .code) in (
-      same,
-      equal-or-not c₁ done
-          (λ z. tables-one (p .built z) (q .built (sym same ∙ z)))
-          (λ d. p .refused d ∙ sym (q .refused (λ z. d (same ∙ z)))),
-      leaves-one (fits? os ts t) (p .work) (q .work),
-    )
+builds-one os ts root {t} p q = graph-call-one (fits? os ts (long? (vertices os) t)) (λ f a b. tables-one a b) p q

@@ -1,9 +1,8 @@
 // The build of the six tables.
-use graph::codes::BAD_SIZE;
+use graph::call::begin;
+use graph::call::finish;
 use graph::codes::DONE;
-use graph::codes::NO_ROOM;
-use graph::lists::sized;
-use graph::work::zero;
+use graph::lists::vertices;
 use passes::number;
 use passes::weigh;
 use scatter::scatter;
@@ -88,16 +87,10 @@ pub fn try_hld(
 ) -> u32
     ensures { λ r. ⌜ Builds (now (offsets .entry)) (now (targets .entry)) root (lent parent depth head id order size) (now (work .entry)) (left parent depth head id order size) (now (work .exit)) r ⌝ }
 {
-    if !sized(offsets, targets) {
-        return BAD_SIZE;
-    }
-    let n = offsets.len() - 1;
-    if !long(n, parent, depth, head, id, order, size) {
-        return BAD_SIZE;
-    }
-    let room = 8 * n + targets.len();
-    if work.len() < room {
-        return NO_ROOM;
+    let fits = long(vertices(offsets), parent, depth, head, id, order, size);
+    let begun = begin(offsets, targets, fits, work.len());
+    if begun != DONE {
+        return begun;
     }
     let code = build(
         offsets,
@@ -111,6 +104,6 @@ pub fn try_hld(
         size,
         work,
     );
-    zero(work, 0, room);
+    finish(offsets, targets, work);
     code
 }

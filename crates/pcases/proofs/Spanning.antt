@@ -15,7 +15,7 @@ use Rattle.paths.specs.Route.{links}
 use Rattle.paths.proofs.Links.{links-span, links-tree}
 use Rattle.graph.specs.Codes.{done}
 use Rattle.graph.proofs.Neighbours.{list-below}
-use Rattle.validate.proofs.Meaning.{tree-reached}
+use Rattle.graph.proofs.Passed.{tree-reached}
 use Rattle.climb.specs.Choice.{pick, both}
 use Rattle.pcases.specs.Cases.{Graph, verticesOf, listsOf, Gives}
 use Rattle.pcases.specs.Checks.{all}

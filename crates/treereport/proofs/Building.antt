@@ -86,7 +86,7 @@ pub judged : {os ts : List ℕ} {root : ℕ} {qs out : List ℕ} {count : ℕ} {
     → Builds os ts root t w t′ w′ c → Judged (fileOf os ts root qs count) c t′
 judged {os} {ts} {root} {qs} {count = count} a long b =
     let r = work-room (a .file) in
-    record { first = file-tests (fileOf os ts root qs count) (a .long) (omega arith) (b .code); built = b .built }
+    record { first = file-tests (fileOf os ts root qs count) (a .long) (omega arith) (b .code); built = b .written }
 
 -- parts of n entries of the program's own tables
 pub tree-asks : {os ts qs out : List ℕ} {count n : ℕ} (l : List ℕ) → length l ≡ 1_024 → n ≡ vertices os → FileAsks os ts qs count out

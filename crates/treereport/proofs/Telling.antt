@@ -57,7 +57,7 @@ module _ {os ts : List ℕ} {root : ℕ} {qs : List ℕ} {count : ℕ} {t t′ :
       }
 
   few : c ≡ 0 → FewRanges t′
-  few e = few-ranges (b .built e) (few-vertices (a .file))
+  few e = few-ranges (b .written e) (few-vertices (a .file))
 
   whole-room : (e : c ≡ 0) → length (treeText c (vertices os) root ++ queryLines t′ 1 (queriesOf count qs)) ≤ 61_892
   unfolding maxQueries

@@ -1,6 +1,7 @@
 // The report of a whole file.
 use crate::lines::put_queries;
 use graph::codes::DONE;
+use graph::lists::vertices;
 use hld::build::try_hld;
 use treefile::judge::MAX_OFFSETS;
 use treefile::judge::MAX_QUERIES;
@@ -8,8 +9,6 @@ use treefile::judge::MAX_TARGETS;
 use treefile::lines::put_bad_file;
 use treefile::lines::put_tree_line;
 use treefile::parse::parse;
-ghost use mathlib.Core.Path.{_≡_};
-ghost use Rattle.graph.specs.Lent.{vertices as verticesOf};
 ghost use Rattle.tables.specs.Tables.{lent, left, sixOf};
 ghost use Rattle.treefile.specs.File.{file};
 ghost use Rattle.treereport.specs.Reports.{Written, Reports};
@@ -20,16 +19,6 @@ pub const REPORT_ROOM: usize = 65_536;
 
 // The most vertices of a file's tree.
 const MAX_VERTICES: usize = 1_024;
-
-// The number of vertices that these offsets speak of, 0 where there are none.
-fn vertices(offsets: &[u32]) -> usize
-    ensures { λ r. ⌜ r ≡ verticesOf (now (offsets .entry)) ⌝ }
-{
-    if offsets.len() == 0 {
-        return 0;
-    }
-    offsets.len() - 1
-}
 
 // Builds the tables of a tree, each lent with n entries, and writes the report.
 fn report_tree(

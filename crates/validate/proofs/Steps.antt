@@ -9,27 +9,28 @@ use lib.ListN.{length}
 use borrow.Author.Tests.{not-true, not-false}
 use Rattle.sums.specs.Sum.{at}
 use Rattle.paths.specs.Tree.{Symmetric, AllReached, Tree}
-use Rattle.graph.specs.Codes.{done, badSize, noRoom, badOffsets, badVertex, badRoot, notSymmetric, disconnected, hasCycle}
+use Rattle.graph.specs.Codes.{done, badOffsets, badVertex, badRoot, notSymmetric, disconnected, hasCycle}
 use Rattle.graph.specs.Judgement.{First}
 use Rattle.graph.specs.Lent.{vertices, listOf, Offsets, Targets}
-use Rattle.graph.specs.Validation.{Sized, roomOf, graphTests, Validates}
-use Rattle.graph.specs.Work.{Only, Zeroed}
-use Rattle.graph.proofs.Frames.{only-refl, only-trans, only-wider, zeroed-cleared}
-use Rattle.graph.proofs.Limits.{vertices-small, targets-small}
+use Rattle.graph.specs.Validation.{roomOf, graphTests}
+use Rattle.graph.specs.Steps.{Begun, GraphPart}
+use Rattle.graph.specs.Work.{Only}
+use Rattle.graph.proofs.Frames.{only-refl, only-trans, only-wider}
+use Rattle.graph.proofs.Limits.{vertices-small}
 use Rattle.graph.proofs.Neighbours.{entries-all, list-below}
 use Rattle.symmetry.specs.Symmetry as symmetry
 use Rattle.visit.specs.Visit as visiting
 use Rattle.visit.specs.Visit.{Visited, queueIn, upIn}
 use Rattle.visit.proofs.Positions.{places, visit-rooted, visit-held, listed-back, back-listed, visit-reaches, visit-few, visit-all, visited-same}
 use Rattle.visit.proofs.Edges.{tree-entries, symmetric-back, entries-tree}
-use Rattle.validate.specs.Judged.{JudgeAsks, Judged}
+use Rattle.validate.specs.Judged.{Judged}
 use Rattle.validate.specs.Listed.{CountsAsk, TreeCounts, ListedAsks, ParentsListed}
 
 -- a graph within its limits has few vertices
-pub counts-ask : {os ts w : List ℕ} → JudgeAsks os ts w → CountsAsk (vertices os)
+pub counts-ask : {os ts w : List ℕ} → Begun os ts w → CountsAsk (vertices os)
 counts-ask a = (a .sized .some-vertex, (let l = a .sized .few-vertices in let k = vertices-small in omega arith))
 
-module _ (os ts : List ℕ) (root : ℕ) (w : List ℕ) (a : JudgeAsks os ts w) where
+module _ (os ts : List ℕ) (root : ℕ) (w : List ℕ) (a : Begun os ts w) where
   untouched : Only 0 (roomOf os ts) w w
   untouched = only-refl 0 (roomOf os ts) w
 
@@ -162,25 +163,7 @@ module _ (os ts : List ℕ) (root : ℕ) (w : List ℕ) (a : JudgeAsks os ts w) 
                   met : t ≡ vertices os
                   met = (let k = visit-few (v .visited) in omega arith)
 
--- the room is a number of 64 bits
-pub room-fits : (os ts : List ℕ) → Sized os ts → roomOf os ts < 2 ^ 35
-room-fits os ts s = omega (arith, s .few-vertices, s .few-targets, vertices-small, targets-small)
-
--- the public call, test by test
-module _ (os ts : List ℕ) (root : ℕ) (w : List ℕ) where
-  pub too-large : (Sized os ts → ⊥) → Validates os ts root w w badSize
-  too-large ns = record { code = inl (ns, refl); work = record { zeroed = λ s r. absurd (ns s); kept = λ k. refl } }
-
-  pub too-short : Sized os ts → length w < roomOf os ts → Validates os ts root w w noRoom
-  too-short s h =
-      record {
-        code = inr (s, inl ((λ r. omega arith), refl));
-        work = record { zeroed = λ s r. absurd (omega arith); kept = λ k. refl };
-      }
-
-  pub judged : Sized os ts → roomOf os ts ≤ length w → {w₁ w₂ : List ℕ} {c : ℕ} → Judged os ts root w w₁ c → Zeroed 0 (roomOf os ts) w₁ w₂ → Validates os ts root w w₂ c
-  judged s r j z =
-      record {
-        code = inr (s, inr (r, j .code));
-        work = record { zeroed = λ s r. zeroed-cleared r (j .only) z; kept = λ k. absurd (k (s, r)) };
-      }
+-- validation is this and no more: it is lent no memory to write
+pub judged-part : {os ts : List ℕ} {root : ℕ} {w w′ : List ℕ} {c : ℕ} → Judged os ts root w w′ c
+    → GraphPart os ts (graphTests os ts root) (λ (m : Unit {0}). Unit {0}) tt tt w w′ c
+judged-part j = record { code = j .code; written = λ z. tt; refused = λ d. refl; only = j .only }

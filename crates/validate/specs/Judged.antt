@@ -1,19 +1,13 @@
--- What `judge` asks of its caller and answers: the tests 3 to 8, with the visit left in work for a build.
-use Prim.Native.Nat.{ℕ, _≤_}
+-- What `judge` answers: the tests 3 to 8, with the visit left in work for a build.
+use Prim.Native.Nat.{ℕ}
 use mathlib.Core.Path.{_≡_}
 use mathlib.Core.List.{List}
-use lib.ListN.{length}
 use Rattle.graph.specs.Codes.{done}
 use Rattle.graph.specs.Judgement.{First}
 use Rattle.graph.specs.Lent.{vertices, listOf}
-use Rattle.graph.specs.Validation.{Sized, roomOf, graphTests}
+use Rattle.graph.specs.Validation.{roomOf, graphTests}
 use Rattle.graph.specs.Work.{Only}
 use Rattle.visit.specs.Visit.{Visited, queueIn, upIn}
-
--- the tests 1 and 2 were passed
-pub record JudgeAsks (os ts w : List ℕ) : Type 0 where
-  pub sized : Sized os ts
-  pub room : roomOf os ts ≤ length w
 
 -- a visit from the root that met every vertex stands in work
 pub record VisitIn (os ts : List ℕ) (root : ℕ) (w : List ℕ) : Type 0 where

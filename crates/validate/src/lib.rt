@@ -2,24 +2,23 @@
 mod listed;
 
 use crate::listed::parents_listed;
+use graph::call::begin;
+use graph::call::finish;
 use graph::codes::BAD_OFFSETS;
 use graph::codes::BAD_ROOT;
-use graph::codes::BAD_SIZE;
 use graph::codes::BAD_VERTEX;
 use graph::codes::DISCONNECTED;
 use graph::codes::DONE;
 use graph::codes::HAS_CYCLE;
-use graph::codes::NO_ROOM;
 use graph::codes::NOT_SYMMETRIC;
-use graph::lists::sized;
 use graph::lists::sound_offsets;
 use graph::lists::sound_targets;
-use graph::work::zero;
 use symmetry::symmetric;
 use visit::visit;
 ghost use Rattle.graph.specs.Judgement.{Decides};
 ghost use Rattle.graph.specs.Validation.{Validates};
-ghost use Rattle.validate.specs.Judged.{JudgeAsks, Judged};
+ghost use Rattle.graph.specs.Steps.{Begun};
+ghost use Rattle.validate.specs.Judged.{Judged};
 ghost use Rattle.validate.specs.Listed.{CountsAsk, TreeCounts};
 
 // Whether all n vertices were met, and there are as many entries as a tree has: two for each of its n - 1 edges.
@@ -38,7 +37,7 @@ fn tree_counts(n: usize, met: usize, entries: usize) -> bool
 // it was met, these are all the entries, and the lists are a tree's. After DONE the visit from the root stands in work, from index 0 on.
 // The symmetry test uses the cursors' n entries from 7n on and the E entries behind them.
 pub fn judge(offsets: &[u32], targets: &[u32], root: usize, work: &mut [u32]) -> u32
-    requires { ⌜ JudgeAsks (now offsets) (now targets) (now work) ⌝ }
+    requires { ⌜ Begun (now offsets) (now targets) (now work) ⌝ }
     ensures { λ r. ⌜ Judged (now (offsets .entry)) (now (targets .entry)) root (now (work .entry)) (now (work .exit)) r ⌝ }
 {
     let n = offsets.len() - 1;
@@ -72,14 +71,11 @@ pub fn judge(offsets: &[u32], targets: &[u32], root: usize, work: &mut [u32]) ->
 pub fn validate_tree(offsets: &[u32], targets: &[u32], root: usize, work: &mut [u32]) -> u32
     ensures { λ r. ⌜ Validates (now (offsets .entry)) (now (targets .entry)) root (now (work .entry)) (now (work .exit)) r ⌝ }
 {
-    if !sized(offsets, targets) {
-        return BAD_SIZE;
-    }
-    let room = 8 * (offsets.len() - 1) + targets.len();
-    if work.len() < room {
-        return NO_ROOM;
+    let begun = begin(offsets, targets, true, work.len());
+    if begun != DONE {
+        return begun;
     }
     let code = judge(offsets, targets, root, work);
-    zero(work, 0, room);
+    finish(offsets, targets, work);
     code
 }

@@ -2,10 +2,10 @@ use borrow.Author.Needs.{needs}
 use Rattle.hld.proofs.build.build.Statement.{statement}
 use Rattle.hld.proofs.build.build.Tie as tie
 use native.Mathlib.Omega.{arith}
-use Rattle.hld.proofs.Whole.{judge-asks, build-refused, to-weigh, to-number, to-scatter, build-done}
+use Rattle.hld.proofs.Whole.{build-refused, to-weigh, to-number, to-scatter, build-done}
 
 judge-requires : tie.Need-judge-requires
-judge-requires c κs = judge-asks _ _ 0 _ _ (c .before .before .before .before .before .before .before .before .before .before .pre)
+judge-requires c κs = c .before .before .before .before .before .before .before .before .before .before .pre .begun
 
 same-length : tie.Need-same-length
 same-length c = search needs
@@ -14,7 +14,7 @@ returns : tie.Need-returns
 returns c = build-refused _ _ _ _ _ (c .before .before .before .before .before .before .before .before .before .before .before .before .before .before .pre) _ _ (c .before .before .before .judge .ensures) (c .if1 .taken)
 
 sub-n : tie.Need-sub-n
-sub-n c = omega (arith, c .before .before .before .before .before .before .before .before .before .before .before .before .before .before .pre .fits .sized .some-vertex)
+sub-n c = omega (arith, c .before .before .before .before .before .before .before .before .before .before .before .before .before .before .pre .begun .sized .some-vertex)
 
 weigh-requires : tie.Need-weigh-requires
 weigh-requires c κs = to-weigh _ _ _ _ _ (c .before .before .before .before .before .before .before .before .before .before .before .before .before .before .before .pre) _ _ (c .before .before .before .before .judge .ensures) (c .before .if1 .left)
