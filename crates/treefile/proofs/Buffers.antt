@@ -1,15 +1,15 @@
 -- Laws of `parse`: a bad file changes no buffer, and the parts of a well-formed one fit and are copied.
-use Prim.Native.Nat.{ℕ, _+_, _*_, _≤_}
+use Prim.Native.Nat.{ℕ, _+_, _-_, _*_, _≤_}
 use native.Mathlib.Omega.{arith}
 use mathlib.Core.Path.{_≡_, refl, sym, ap, _∙_}
 use mathlib.Core.Bool.{false, true≢false}
-use mathlib.Core.List.{List, _++_}
+use mathlib.Core.List.{List}
 use lib.ListN.{length, take, drop, length-drop}
 use Rattle.treefile.specs.declared.judge.Shape.{Shape}
-use Rattle.treefile.specs.File.{words, Parsed, badFile, file, parseFile}
+use Rattle.treefile.specs.File.{numbers, narrow, Parsed, badFile, file, parseFile}
 use Rattle.treefile.specs.Parsing.{shapeOf, front, Buffers, Parses}
-use Rattle.treefile.specs.Sections.{Copies}
-use Rattle.treefile.proofs.FileWords.{copy-front}
+use Rattle.treefile.specs.Sections.{Copies, copied, TreeCopies, TreeCopied}
+use Rattle.treefile.proofs.FileNumbers.{copy-front}
 use Rattle.treefile.proofs.Places.{Layout}
 
 not-good : (p : Parsed) → shapeOf p .good ≡ false → p ≡ badFile
@@ -22,33 +22,34 @@ parses-bad bytes os ts qs {r} e wrong =
     record { shape = e; offsets = rw is; targets = rw is; queries = rw is }
 
 module _ {ws os ts qs : List ℕ} {p : Parsed} {r : Shape} (l : Layout ws p r) (b : Buffers os ts qs) where
-  pub offsets-fit : Copies ws 1 (r .offsets) os
-  offsets-fit = record { there = omega (arith, l .whole); room = omega (arith, l .few-offsets, b .offsets) }
+  pub tree-fits : TreeCopies ws 0 (r .offsets) (r .targets) os ts
+  tree-fits =
+      record {
+        offsets = record { there = omega (arith, l .whole); room = omega (arith, l .few-offsets, b .offsets) };
+        targets = record { there = omega (arith, l .whole); room = omega (arith, l .few-targets, b .targets) };
+      }
 
-  pub targets-fit : Copies ws (r .offsets + 2) (r .targets) ts
-  targets-fit = record { there = omega (arith, l .whole); room = omega (arith, l .few-targets, b .targets) }
-
-  pub queries-fit : Copies ws (r .offsets + r .targets + 5) (4 * r .queries) qs
-  queries-fit = record { there = omega (arith, l .whole); room = omega (arith, l .few-queries, b .queries) }
+  pub queries-fit : (n : ℕ) → n ≡ length ws → Copies ws (n - 4 * r .queries) (4 * r .queries) qs
+  queries-fit n e = record { there = omega (arith, l .whole); room = omega (arith, l .few-queries, b .queries) }
 
 -- numbers that were copied stand in front
-fronted : (lent : List ℕ) {out s : List ℕ} (ws : List ℕ) (p n : ℕ) → p + n ≤ length ws → s ≡ take n (drop p ws) → out ≡ take n (drop p ws) ++ drop n lent → out ≡ front s lent
-fronted lent ws p n h is copied =
+pub fronted : (lent : List ℕ) {out s : List ℕ} (ws : List ℕ) (p n : ℕ) → p + n ≤ length ws → s ≡ take n (drop p ws) → out ≡ copied ws p n lent → out ≡ front s lent
+fronted lent ws p n h is copies =
     let d = length-drop p ws in
-    copied ∙ copy-front (drop p ws) lent n (omega arith) ∙ ap (λ (x : List ℕ). front x lent) (sym is)
+    copies ∙ copy-front (drop p ws) lent n (omega arith) ∙ ap (λ (x : List ℕ). front x lent) (sym is)
 
-pub parses-good : (bytes : List ℕ) {os ts qs os′ ts′ qs′ : List ℕ} {r : Shape} → r ≡ shapeOf (parseFile bytes) → Layout (words bytes) (parseFile bytes) r
-    → os′ ≡ take (r .offsets) (drop 1 (words bytes)) ++ drop (r .offsets) os
-    → ts′ ≡ take (r .targets) (drop (r .offsets + 2) (words bytes)) ++ drop (r .targets) ts
-    → qs′ ≡ take (4 * r .queries) (drop (r .offsets + r .targets + 5) (words bytes)) ++ drop (4 * r .queries) qs
-    → Parses bytes os ts qs os′ ts′ qs′ r
-parses-good bytes {os} {ts} {qs} {r = r} e l eo et eq =
-    let ws : List ℕ = words bytes in
+pub parses-good : (bytes : List ℕ) (n : ℕ) {os ts qs os′ ts′ qs′ : List ℕ} {r : Shape} → r ≡ shapeOf (parseFile bytes) → Layout (numbers narrow bytes) (parseFile bytes) r
+    → TreeCopied (numbers narrow bytes) 0 (r .offsets) (r .targets) os ts os′ ts′ → n ≡ length (numbers narrow bytes)
+    → qs′ ≡ copied (numbers narrow bytes) (n - 4 * r .queries) (4 * r .queries) qs → Parses bytes os ts qs os′ ts′ qs′ r
+parses-good bytes n {os} {ts} {qs} {r = r} e l tree m eq =
+    let ws : List ℕ = numbers narrow bytes in
+    let o : r .offsets + 2 ≡ 0 + r .offsets + 2 = omega arith in
+    let q : length ws - 4 * r .queries ≡ n - 4 * r .queries = omega arith in
     record {
       shape = e;
-      offsets = fronted os ws 1 (r .offsets) (omega (arith, l .whole)) (l .offsets-are) eo;
-      targets = fronted ts ws (r .offsets + 2) (r .targets) (omega (arith, l .whole)) (l .targets-are) et;
-      queries = fronted qs ws (r .offsets + r .targets + 5) (4 * r .queries) (omega (arith, l .whole)) (l .queries-are) eq;
+      offsets = fronted os ws 1 (r .offsets) (omega (arith, l .whole)) (l .offsets-are) (tree .offsets);
+      targets = fronted ts ws (0 + r .offsets + 2) (r .targets) (omega (arith, l .whole)) (l .targets-are ∙ ap (λ (i : ℕ). take (r .targets) (drop i ws)) o) (tree .targets);
+      queries = fronted qs ws (n - 4 * r .queries) (4 * r .queries) (omega (arith, l .whole)) (l .queries-are ∙ ap (λ (i : ℕ). take (4 * r .queries) (drop i ws)) q) eq;
     }
 
 -- the answer and the buffers are determined

@@ -2,10 +2,10 @@ pub mod Digits
 pub mod Writing
 pub mod Flat
 pub mod Report
-pub mod FileWords
+pub mod FileNumbers
 pub mod Sections
 pub mod Queries
-pub mod Roots
-pub mod Opening
+pub mod Asking
+pub mod Trees
 pub mod Places
 pub mod Buffers

@@ -11,7 +11,7 @@ use Rattle.sums.specs.Sum.{at}
 use Rattle.climb.specs.Choice.{pick, both}
 use Rattle.treefile.specs.File.{Query, query?, Queries, bad, all, before, queriesIn}
 use Rattle.treefile.specs.Sections.{isAll, queryAt}
-use Rattle.treefile.proofs.FileWords.{drop-next, drop-three}
+use Rattle.treefile.proofs.FileNumbers.{drop-next, drop-three}
 use Rattle.treefile.specs.Parsing.{queryNumbers}
 
 -- the tests of a query, one by one

@@ -107,7 +107,7 @@ report-room code t f few most =
     let lines = query-lines-room t 1 (f .queries) few in
     let rest : length (pick (eqb code 0) (queryLines t 1 (f .queries)) []) ≤ 61_824 = pick-room (eqb code 0) _ [] (omega arith) (omega arith) in
     let both = length-append (treeLine code f) (pick (eqb code 0) (queryLines t 1 (f .queries)) []) in
-    omega (arith, tree-text-room code (length (f .offsets) - 1) (f .root))
+    omega (arith, tree-text-room code (length (f .tree .offsets) - 1) (f .tree .root))
 
 -- the lines of the first queries, and one line more
 pub query-lines-more : (t : Six) (place : ℕ) (qs : List Query) (q : Query)

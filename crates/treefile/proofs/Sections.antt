@@ -15,7 +15,7 @@ use Rattle.climb.specs.Choice.{pick, both}
 use Rattle.treefile.specs.declared.judge.Found.the-variants.{Count, Cut}
 use Rattle.treefile.specs.File.{Section, cut, part, section}
 use Rattle.treefile.specs.Sections.{countOf}
-use Rattle.treefile.proofs.FileWords.{drop-next}
+use Rattle.treefile.proofs.FileNumbers.{drop-next}
 
 -- a section of numbers os and what follows it, at place p of the numbers ws
 pub record Part (most : ℕ) (ws : List ℕ) (p : ℕ) (os rest : List ℕ) : Type 0 where

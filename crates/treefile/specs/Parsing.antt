@@ -10,15 +10,15 @@ use Rattle.treefile.specs.File.{Query, Parsed, badFile, file, parseFile,
 -- the counts of a well-formed file and its root
 abbrev pub shapeOf : Parsed → Shape
 shapeOf badFile = record { good = false; offsets = 0; targets = 0; root = 0; queries = 0 }
-shapeOf (file f) = record { good = true; offsets = length (f .offsets); targets = length (f .targets); root = f .root; queries = length (f .queries) }
+shapeOf (file f) = record { good = true; offsets = length (f .tree .offsets); targets = length (f .tree .targets); root = f .tree .root; queries = length (f .queries) }
 
 abbrev pub offsetsOf : Parsed → List ℕ
 offsetsOf badFile = []
-offsetsOf (file f) = f .offsets
+offsetsOf (file f) = f .tree .offsets
 
 abbrev pub targetsOf : Parsed → List ℕ
 targetsOf badFile = []
-targetsOf (file f) = f .targets
+targetsOf (file f) = f .tree .targets
 
 -- queries in a plain list, four numbers each
 abbrev pub queryNumbers : List Query → List ℕ

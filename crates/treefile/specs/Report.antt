@@ -81,7 +81,7 @@ treeWord = 116 ∷ 114 ∷ 101 ∷ 101 ∷ 32 ∷ []
 
 -- "A refused tree prints `tree` and its code"; "Else the first line is `tree`, code, n, root"
 abbrev pub treeLine : ℕ → TreeFile → List ℕ
-treeLine code f = treeWord ++ (pick (eqb code 0) (fields (0 ∷ (length (f .offsets) - 1) ∷ f .root ∷ [])) (decimal code) ++ newline)
+treeLine code f = treeWord ++ (pick (eqb code 0) (fields (0 ∷ (length (f .tree .offsets) - 1) ∷ f .tree .root ∷ [])) (decimal code) ++ newline)
 
 -- the report of a file whose tree got this code and, where it is 0, these tables
 abbrev pub fileReport : ℕ → Six → TreeFile → List ℕ

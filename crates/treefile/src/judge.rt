@@ -1,11 +1,12 @@
 // Whether a file is well-formed, with its counts and its root.
 use crate::words;
+use crate::words::Width;
 ghost use mathlib.Core.Path.{_≡_};
 ghost use Prim.Native.Nat.{_+_, _≤_};
 ghost use lib.ListN.{length, drop};
-ghost use Rattle.treefile.specs.File.{words as wordsOf, section as sectionOf, query?, queriesIn, badFile, parseFile};
+ghost use Rattle.treefile.specs.File.{numbers, section as sectionOf, readTree, query?, queriesIn, querySection, badFile, parseAs};
 ghost use Rattle.treefile.specs.Parsing.{shapeOf};
-ghost use Rattle.treefile.specs.Sections.{countOf, queryAt, isAll, Asks, Rests};
+ghost use Rattle.treefile.specs.Sections.{bytesIn, countOf, treeFound, Rooted, queryAt, isAll, queryCount, Asks};
 
 // The program's own limits.
 pub const MAX_OFFSETS: usize = 1_025;
@@ -13,6 +14,9 @@ pub const MAX_OFFSETS: usize = 1_025;
 pub const MAX_TARGETS: usize = 2_048;
 
 pub const MAX_QUERIES: usize = 64;
+
+// The most numbers of a root section.
+const MAX_ROOTS: usize = 1;
 
 // How many offsets, targets and queries a file has, and its root; all 0 where it is not good.
 pub struct Shape {
@@ -29,6 +33,18 @@ pub enum Found {
     Cut,
 }
 
+// How many offsets and targets a tree has, its root, and the place behind its sections.
+pub enum TreeFound {
+    Sections {
+        offsets: usize,
+        targets: usize,
+        root: usize,
+        next: usize,
+    },
+    BadTree,
+}
+
+// What is said of a file that is not good.
 fn bad_file() -> Shape
     ensures { λ r. ⌜ r ≡ shapeOf badFile ⌝ }
 {
@@ -42,14 +58,14 @@ fn bad_file() -> Shape
 }
 
 // The section at place p, of at most so many numbers.
-fn section(bytes: &[u8], p: usize, most: usize) -> Found
-    ensures { λ r. ⌜ r ≡ countOf (sectionOf most (drop p (wordsOf (now (bytes .entry))))) ⌝ }
+fn section(bytes: &[u8], width: Width, p: usize, most: usize) -> Found
+    ensures { λ r. ⌜ r ≡ countOf (sectionOf most (drop p (numbers (bytesIn width) (now (bytes .entry))))) ⌝ }
 {
-    let n = bytes.len() / 2;
+    let n = words::count(bytes, width);
     if n <= p {
         return Found::Cut;
     }
-    let count = words::word(bytes, p);
+    let count = words::number(bytes, width, p);
     if most < count {
         return Found::Cut;
     }
@@ -59,12 +75,46 @@ fn section(bytes: &[u8], p: usize, most: usize) -> Found
     Found::Count(count)
 }
 
-// Whether the four numbers from place p on are a query.
-fn good_query(bytes: &[u8], p: usize) -> bool
-    requires { ⌜ p + 4 ≤ length (wordsOf (now bytes)) ⌝ }
-    ensures { λ r. ⌜ r ≡ query? (queryAt (wordsOf (now (bytes .entry))) p) ⌝ }
+// The root section at place p, behind o offsets and t targets: the one place that knows what it holds.
+fn judge_root(bytes: &[u8], width: Width, p: usize, o: usize, t: usize) -> TreeFound
+    ensures { λ r. ⌜ Rooted (numbers (bytesIn width) (now (bytes .entry))) p o t r ⌝ }
 {
-    let kind = words::word(bytes, p);
+    let found = section(bytes, width, p, MAX_ROOTS);
+    let Found::Count(count) = found else {
+        return TreeFound::BadTree;
+    };
+    if count != 1 {
+        return TreeFound::BadTree;
+    }
+    TreeFound::Sections {
+        offsets: o,
+        targets: t,
+        root: words::number(bytes, width, p + 1),
+        next: p + 2,
+    }
+}
+
+// The sections of the tree at place p, which may stand anywhere in the input.
+pub fn judge_tree(bytes: &[u8], width: Width, p: usize) -> TreeFound
+    ensures { λ r. ⌜ r ≡ treeFound (numbers (bytesIn width) (now (bytes .entry))) (readTree (drop p (numbers (bytesIn width) (now (bytes .entry))))) ⌝ }
+{
+    let first = section(bytes, width, p, MAX_OFFSETS);
+    let Found::Count(o) = first else {
+        return TreeFound::BadTree;
+    };
+    let second = section(bytes, width, p + o + 1, MAX_TARGETS);
+    let Found::Count(t) = second else {
+        return TreeFound::BadTree;
+    };
+    judge_root(bytes, width, p + o + t + 2, o, t)
+}
+
+// Whether the four numbers from place p on are a query.
+fn good_query(bytes: &[u8], width: Width, p: usize) -> bool
+    requires { ⌜ p + 4 ≤ length (numbers (bytesIn width) (now bytes)) ⌝ }
+    ensures { λ r. ⌜ r ≡ query? (queryAt (numbers (bytesIn width) (now (bytes .entry))) p) ⌝ }
+{
+    let kind = words::number(bytes, width, p);
     if kind < 1 {
         return false;
     }
@@ -77,21 +127,21 @@ fn good_query(bytes: &[u8], p: usize) -> bool
     if kind == 4 {
         return true;
     }
-    words::word(bytes, p + 3) == 0
+    words::number(bytes, width, p + 3) == 0
 }
 
 // Whether just so many queries stand from place p on.
-fn good_queries(bytes: &[u8], p: usize, count: usize) -> bool
-    requires { ⌜ Asks (wordsOf (now bytes)) p count ⌝ }
-    ensures { λ r. ⌜ r ≡ isAll (queriesIn count (drop p (wordsOf (now (bytes .entry))))) ⌝ }
+fn good_queries(bytes: &[u8], width: Width, p: usize, count: usize) -> bool
+    requires { ⌜ Asks (numbers (bytesIn width) (now bytes)) p count ⌝ }
+    ensures { λ r. ⌜ r ≡ isAll (queriesIn count (drop p (numbers (bytesIn width) (now (bytes .entry))))) ⌝ }
 {
-    if bytes.len() / 2 - p != 4 * count {
+    if words::count(bytes, width) - p != 4 * count {
         return false;
     }
     let mut next = p;
     let mut left = count;
     while 0 < left {
-        if !good_query(bytes, next) {
+        if !good_query(bytes, width, next) {
             return false;
         }
         next += 4;
@@ -100,49 +150,49 @@ fn good_queries(bytes: &[u8], p: usize, count: usize) -> bool
     true
 }
 
-// The root and the queries behind o offsets and t targets.
-fn judge_rest(bytes: &[u8], o: usize, t: usize) -> Shape
-    requires { ⌜ o + t + 2 ≤ length (wordsOf (now bytes)) ⌝ }
-    ensures { λ r. ⌜ Rests (wordsOf (now (bytes .entry))) o t r ⌝ }
+// The count of the queries whose section stands at place p, the last of the file.
+fn judge_queries(bytes: &[u8], width: Width, p: usize) -> Found
+    ensures { λ r. ⌜ r ≡ queryCount (querySection (drop p (numbers (bytesIn width) (now (bytes .entry))))) ⌝ }
 {
-    let p = o + t + 2;
-    if bytes.len() / 2 < p + 3 {
-        return bad_file();
+    if words::count(bytes, width) <= p {
+        return Found::Cut;
     }
-    if words::word(bytes, p) != 1 {
-        return bad_file();
-    }
-    let count = words::word(bytes, p + 2);
+    let count = words::number(bytes, width, p);
     if MAX_QUERIES < count {
-        return bad_file();
+        return Found::Cut;
     }
-    if !good_queries(bytes, p + 3, count) {
-        return bad_file();
+    if !good_queries(bytes, width, p + 1, count) {
+        return Found::Cut;
     }
-    let root = words::word(bytes, p + 1);
-    Shape {
-        good: true,
-        offsets: o,
-        targets: t,
-        root,
-        queries: count,
-    }
+    Found::Count(count)
 }
 
 // The whole file is judged before anything else is done with it.
-pub fn judge(bytes: &[u8]) -> Shape
-    ensures { λ r. ⌜ r ≡ shapeOf (parseFile (now (bytes .entry))) ⌝ }
+pub fn judge(bytes: &[u8], width: Width) -> Shape
+    ensures { λ r. ⌜ r ≡ shapeOf (parseAs (bytesIn width) (now (bytes .entry))) ⌝ }
 {
-    if bytes.len() % 2 != 0 {
+    if bytes.len() % words::bytes_in(width) != 0 {
         return bad_file();
     }
-    let first = section(bytes, 0, MAX_OFFSETS);
-    let Found::Count(o) = first else {
+    let found = judge_tree(bytes, width, 0);
+    let TreeFound::Sections {
+        offsets,
+        targets,
+        root,
+        next,
+    } = found
+    else {
         return bad_file();
     };
-    let second = section(bytes, o + 1, MAX_TARGETS);
-    let Found::Count(t) = second else {
+    let asked = judge_queries(bytes, width, next);
+    let Found::Count(queries) = asked else {
         return bad_file();
     };
-    judge_rest(bytes, o, t)
+    Shape {
+        good: true,
+        offsets,
+        targets,
+        root,
+        queries,
+    }
 }

@@ -2,21 +2,48 @@
 use crate::judge;
 use crate::judge::Shape;
 use crate::words;
+use crate::words::Width;
+ghost use Rattle.treefile.specs.File.{numbers};
 ghost use Rattle.treefile.specs.Parsing.{Buffers, Parses};
+ghost use Rattle.treefile.specs.Sections.{bytesIn, TreeCopies, TreeCopied};
 
-// Judges the bytes, and copies only what is well-formed: a bad file leaves the buffers as they were.
+// Copies the o offsets and the t targets of the tree at place p, which may stand anywhere in the input.
+pub fn copy_tree(
+    bytes: &[u8],
+    width: Width,
+    p: usize,
+    o: usize,
+    t: usize,
+    offsets: &mut [u32],
+    targets: &mut [u32],
+)
+    requires { ⌜ TreeCopies (numbers (bytesIn width) (now bytes)) p o t (now offsets) (now targets) ⌝ }
+    ensures { λ r. ⌜ TreeCopied (numbers (bytesIn width) (now (bytes .entry))) p o t (now (offsets .entry)) (now (targets .entry)) (now (offsets .exit)) (now (targets .exit)) ⌝ }
+{
+    words::copy_numbers(bytes, width, p + 1, o, offsets);
+    words::copy_numbers(bytes, width, p + o + 2, t, targets);
+}
+
+// Judges the bytes, and copies only what is well-formed: a bad file leaves the buffers as they were. The queries are the last numbers.
 pub fn parse(bytes: &[u8], offsets: &mut [u32], targets: &mut [u32], queries: &mut [u32]) -> Shape
     requires { ⌜ Buffers (now offsets) (now targets) (now queries) ⌝ }
     ensures { λ r. ⌜ Parses (now (bytes .entry)) (now (offsets .entry)) (now (targets .entry)) (now (queries .entry)) (now (offsets .exit)) (now (targets .exit)) (now (queries .exit)) r ⌝ }
 {
-    let shape = judge::judge(bytes);
+    let shape = judge::judge(bytes, Width::Narrow);
     if !shape.good {
         return shape;
     }
-    let o = shape.offsets;
-    let t = shape.targets;
-    words::copy_words(bytes, 1, o, offsets);
-    words::copy_words(bytes, o + 2, t, targets);
-    words::copy_words(bytes, o + t + 5, 4 * shape.queries, queries);
+    copy_tree(
+        bytes,
+        Width::Narrow,
+        0,
+        shape.offsets,
+        shape.targets,
+        offsets,
+        targets,
+    );
+    let asked = 4 * shape.queries;
+    let first = words::count(bytes, Width::Narrow) - asked;
+    words::copy_numbers(bytes, Width::Narrow, first, asked, queries);
     shape
 }

@@ -4,7 +4,7 @@ use native.Mathlib.Omega.{arith}
 use native.Mathlib.Decide.{decLe}
 use native.Mathlib.Nat.{pow-le-pow-right}
 use mathlib.Core.Path.{_≡_, sym, ap, _∙_}
-use mathlib.Core.Logic.{_⊎_, inl, inr, ⊎-elim, by-cases}
+use mathlib.Core.Logic.{inl, inr, ⊎-elim, by-cases}
 use mathlib.Core.List.{List, [], _∷_}
 use lib.ListN.{length, take}
 use lib.Seq.{length-take-le}
@@ -24,9 +24,9 @@ use Rattle.ranges.specs.Calls.{Answered, refused, listed, fromFound, rangesOf}
 use Rattle.ranges.specs.Ranges.{Found, lost, found, pathRanges}
 use Rattle.ranges.specs.declared.kinds.PathRange.{PathRange}
 use Rattle.readings.proofs.Bounds.{ranges-room}
-use Rattle.treefile.specs.File.{TreeFile, maxOffsets, maxFileTargets}
+use Rattle.treefile.specs.File.{TreeSections, maxOffsets, maxFileTargets}
 use Rattle.treefile.specs.Flat.{FewRanges}
-use Rattle.treereport.specs.Reports.{fileTests, Judged}
+use Rattle.treereport.specs.Reports.{treeTests, Judged}
 use Rattle.treereport.specs.Filing.{fileOf, FileAsks, TreeAsks}
 
 -- the logarithm of a number up to 1,024 is at most 10
@@ -66,11 +66,11 @@ few-ranges {n} {root} {A} {t} {kids} N h k u v l e =
     never a p q = let z : _≡_ {A = ℕ} 0 1 = cc in omega arith
 
 -- where tables and work fit, the tests of a build are those of the graph
-pub file-tests : (f : TreeFile) {t : Six} {room c : ℕ} → Long (vertices (f .offsets)) t → roomOf (f .offsets) (f .targets) ≤ room
-    → First (building (f .offsets) (f .targets) (f .root) t room) c → First (fileTests f) c
-file-tests f long room (inl p) = inl ((λ s. p .0 (record { sized = s; tables = long })), p .1)
-file-tests f long room (inr (fits, inl p)) = absurd (p .0 room)
-file-tests f long room (inr (fits, inr (r, rest))) = inr (fits .sized, rest)
+pub tree-tests : (s : TreeSections) {t : Six} {room c : ℕ} → Long (vertices (s .offsets)) t → roomOf (s .offsets) (s .targets) ≤ room
+    → First (building (s .offsets) (s .targets) (s .root) t room) c → First (treeTests s) c
+tree-tests s long room (inl p) = inl ((λ z. p .0 (record { sized = z; tables = long })), p .1)
+tree-tests s long room (inr (fits, inl p)) = absurd (p .0 room)
+tree-tests s long room (inr (fits, inr (r, rest))) = inr (fits .sized, rest)
 
 -- a file has at most 1,024 vertices, for which the program's tables and work are long enough
 pub few-vertices : {os ts qs out : List ℕ} {count : ℕ} → FileAsks os ts qs count out → vertices os ≤ 1_024
@@ -83,10 +83,10 @@ work-room a = omega (arith, a .few-offsets, a .few-targets)
 
 -- what the build answers of a file's tree
 pub judged : {os ts : List ℕ} {root : ℕ} {qs out : List ℕ} {count : ℕ} {t t′ : Six} {w w′ : List ℕ} {c : ℕ} → TreeAsks os ts t qs count out → 10_240 ≤ length w
-    → Builds os ts root t w t′ w′ c → Judged (fileOf os ts root qs count) c t′
+    → Builds os ts root t w t′ w′ c → Judged (fileOf os ts root qs count .tree) c t′
 judged {os} {ts} {root} {qs} {count = count} a long b =
     let r = work-room (a .file) in
-    record { first = file-tests (fileOf os ts root qs count) (a .long) (omega arith) (b .code); built = b .written }
+    record { first = tree-tests (fileOf os ts root qs count .tree) (a .long) (omega arith) (b .code); built = b .written }
 
 -- parts of n entries of the program's own tables
 pub tree-asks : {os ts qs out : List ℕ} {count n : ℕ} (l : List ℕ) → length l ≡ 1_024 → n ≡ vertices os → FileAsks os ts qs count out

@@ -1,5 +1,5 @@
 -- Laws of a file's bytes: the parts that `parse` copied are the file's own, and what `report` leaves in each case.
-use Prim.Native.Nat.{_%_, ℕ, _-_, _≤_, _<_}
+use Prim.Native.Nat.{_%_, ℕ, _≤_, _<_}
 use native.Mathlib.Omega.{arith}
 use native.Mathlib.Decide.{ℕ-discrete}
 use mathlib.Core.Path.{_≡_, refl, sym, ap, ap₂, _∙_, subst}
@@ -10,13 +10,12 @@ use lib.ListN.{length, take, drop, length-append, length-drop}
 use lib.Seq.{take-at, length-take-le}
 use Rattle.tables.specs.Tables.{Six, six}
 use Rattle.treefile.specs.declared.judge.Shape.{Shape}
-use Rattle.treefile.specs.File.{Query, TreeFile, words, Parsed, badFile, file, parseFile, maxOffsets, maxFileTargets, maxQueries}
+use Rattle.treefile.specs.File.{Query, TreeFile, numbers, narrow, Parsed, badFile, file, parseFile, maxOffsets, maxFileTargets, maxQueries}
 use Rattle.treefile.specs.Report.{badReport}
 use Rattle.treefile.specs.Parsing.{shapeOf, offsetsOf, targetsOf, queriesOf, queryNumbers, front, Buffers, Parses}
 use Rattle.treefile.specs.Writing.{Puts}
-use Rattle.treefile.proofs.FileWords.{words-length}
-use Rattle.treefile.proofs.Opening.{odd-bad}
-use Rattle.treefile.proofs.Places.{Layout, layout-of}
+use Rattle.treefile.proofs.FileNumbers.{numbers-length}
+use Rattle.treefile.proofs.Places.{Layout, layout-of, left-bad}
 use Rattle.treereport.specs.Lines.{queriesOf as firstQueries}
 use Rattle.treereport.specs.Reports.{reportRoom, Written, Reports}
 use Rattle.treereport.specs.Filing.{fileOf, FileAsks}
@@ -31,7 +30,7 @@ front-longer s lent e =
     omega arith
 
 abbrev fileFrom : List ℕ → List ℕ → ℕ → List Query → TreeFile
-fileFrom os ts root qs = record { offsets = os; targets = ts; root = root; queries = qs }
+fileFrom os ts root qs = record { tree = record { offsets = os; targets = ts; root = root }; queries = qs }
 
 same-parts : (os ts : List ℕ) (root : ℕ) (qs : List Query) {os′ ts′ : List ℕ} {root′ : ℕ} {qs′ : List Query} → os ≡ os′ → ts ≡ ts′ → root ≡ root′ → qs ≡ qs′
     → file (fileFrom os ts root qs) ≡ file (fileFrom os′ ts′ root′ qs′)
@@ -47,8 +46,8 @@ parts-back : (p : Parsed) (r : Shape) (os ts qs : List ℕ) {os′ ts′ qs′ :
 parts-back badFile r os ts qs e good eo et eq = absurd (true≢false (sym good ∙ ap (λ (x : Shape). x .good) e))
 parts-back (file f) r os ts qs {os′} {ts′} {qs′} e good eo et eq =
     same-parts (take (r .offsets) os′) (take (r .targets) ts′) (r .root) (firstQueries (r .queries) qs′)
-    (front-taken (f .offsets) os (ap (λ (x : Shape). x .offsets) e) eo)
-    (front-taken (f .targets) ts (ap (λ (x : Shape). x .targets) e) et)
+    (front-taken (f .tree .offsets) os (ap (λ (x : Shape). x .offsets) e) eo)
+    (front-taken (f .tree .targets) ts (ap (λ (x : Shape). x .targets) e) et)
     (ap (λ (x : Shape). x .root) e)
     (ap₂ firstQueries (ap (λ (x : Shape). x .queries) e) eq ∙ queries-back (f .queries) (drop (length (queryNumbers (f .queries))) qs))
 
@@ -58,8 +57,8 @@ unfolding maxOffsets maxFileTargets maxQueries
 own-buffers os ts qs eo et eq = record { offsets = omega arith; targets = omega arith; queries = omega arith }
 
 module _ {bytes os ts qs os′ ts′ qs′ : List ℕ} {r : Shape} (p : Parses bytes os ts qs os′ ts′ qs′ r) (b : Buffers os ts qs) (good : r .good ≡ true) where
-  layout : Layout (words bytes) (parseFile bytes) r
-  layout = layout-of bytes r (p .shape) good
+  layout : Layout (numbers narrow bytes) (parseFile bytes) r
+  layout = layout-of narrow bytes r (p .shape) good
 
   -- the parts stand in the buffers
   pub offsets-there : r .offsets ≤ length os′
@@ -120,11 +119,11 @@ unfolding maxOffsets maxFileTargets maxQueries
 long-bad bytes h =
     by-cases (ℕ-discrete (length bytes % 2) 0)
     (λ even. go even (parseFile bytes) refl)
-    (λ odd. odd-bad bytes odd)
+    (λ odd. left-bad narrow bytes odd)
   where
     go : length bytes % 2 ≡ 0 → (p : Parsed) → parseFile bytes ≡ p → parseFile bytes ≡ badFile
     go even badFile e = e
     go even (file f) e =
         let r : Shape = shapeOf (parseFile bytes) in
-        let l = layout-of bytes r refl (ap (λ (x : Parsed). shapeOf x .good) e) in
-        absurd (omega (arith, l .whole, l .few-offsets, l .few-targets, l .few-queries, words-length bytes))
+        let l = layout-of narrow bytes r refl (ap (λ (x : Parsed). shapeOf x .good) e) in
+        absurd (omega (arith, l .whole, l .few-offsets, l .few-targets, l .few-queries, numbers-length narrow bytes))

@@ -18,18 +18,18 @@ use Rattle.treefile.specs.Report.{decimal, newline, fields, treeWord, queryLine
 use Rattle.treefile.specs.Flat.{treeText}
 use Rattle.treefile.specs.Parsing.{front}
 use Rattle.treefile.proofs.Report.{tree-refused, tree-built}
-use Rattle.treereport.specs.Reports.{reportRoom, fileTests, Judged, Written, Reports}
+use Rattle.treereport.specs.Reports.{reportRoom, treeTests, Judged, Written, Reports}
 use Rattle.treereport.proofs.Files.{long-bad}
 use Rattle.treereport.proofs.Telling.{refused-report, built-report}
 
 -- two judgements of a file's tree give one text
-judged-one : (f : TreeFile) {c₁ c₂ : ℕ} {t₁ t₂ : Six} → Judged f c₁ t₁ → Judged f c₂ t₂ → fileReport c₁ t₁ f ≡ fileReport c₂ t₂ f
+judged-one : (f : TreeFile) {c₁ c₂ : ℕ} {t₁ t₂ : Six} → Judged (f .tree) c₁ t₁ → Judged (f .tree) c₂ t₂ → fileReport c₁ t₁ f ≡ fileReport c₂ t₂ f
 judged-one f {c₁} {c₂} {t₁} {t₂} j₁ j₂ =
-    let same : c₁ ≡ c₂ = first-one (fileTests f) (j₁ .first) (j₂ .first) in
+    let same : c₁ ≡ c₂ = first-one (treeTests (f .tree)) (j₁ .first) (j₂ .first) in
     equal-or-not c₁ 0
     (λ z. ap₂ (λ (c : ℕ) (t : Six). fileReport c t f) same (tables-one (j₁ .built z) (j₂ .built (sym same ∙ z))))
     (λ d. refused-report c₁ t₁ f d
-    ∙ ap (λ (c : ℕ). treeText c (length (f .offsets) - 1) (f .root)) same
+    ∙ ap (λ (c : ℕ). treeText c (length (f .tree .offsets) - 1) (f .tree .root)) same
     ∙ sym (refused-report c₂ t₂ f (λ z. d (same ∙ z))))
 
 text-one : (p : Parsed) {out o₁ o₂ : List ℕ} {r₁ r₂ : ℕ} (a : Written p out o₁ r₁) (b : Written p out o₂ r₂)
@@ -79,22 +79,22 @@ module _ (bytes : List ℕ) {out out′ : List ℕ} {r : ℕ} (w : Reports bytes
   report-long h = report-bad (long-bad bytes h)
 
   module _ (f : TreeFile) (e : parseFile bytes ≡ file f) where
-    as-judged : {c : ℕ} {t : Six} (text : List ℕ) → Judged f c t → fileReport c t f ≡ text → Begins out out′ r text
+    as-judged : {c : ℕ} {t : Six} (text : List ℕ) → Judged (f .tree) c t → fileReport c t f ≡ text → Begins out out′ r text
     as-judged text j is = as-text (file f) text e (judged-one f (w .whole room .judged f e) j ∙ is)
 
     -- "A refused tree prints `tree` and its code"
-    pub report-refused : (c : ℕ) → (c ≡ done → ⊥) → First (fileTests f) c
+    pub report-refused : (c : ℕ) → (c ≡ done → ⊥) → First (treeTests (f .tree)) c
         → Begins out out′ r (treeWord ++ (decimal c ++ newline))
     report-refused c d first =
         let t : Six = w .whole room .tables in
-        let j : Judged f c t = record { first = first; built = λ z. absurd (d z) } in
-        as-judged (treeWord ++ (decimal c ++ newline)) j (refused-report c t f d ∙ tree-refused c (length (f .offsets) - 1) (f .root) d)
+        let j : Judged (f .tree) c t = record { first = first; built = λ z. absurd (d z) } in
+        as-judged (treeWord ++ (decimal c ++ newline)) j (refused-report c t f d ∙ tree-refused c (length (f .tree .offsets) - 1) (f .tree .root) d)
 
     -- "Else the first line is `tree`, code, n, root; then for each query" its line, with the answer that the calls give on the tree's tables
-    pub report-built : (t : Six) → First (fileTests f) done → TablesOf (vertices (f .offsets)) (listOf (f .offsets) (f .targets)) (f .root) t
-        → Begins out out′ r ((treeWord ++ (fields (0 ∷ vertices (f .offsets) ∷ f .root ∷ []) ++ newline)) ++ queryLines t 1 (f .queries))
+    pub report-built : (t : Six) → First (treeTests (f .tree)) done → TablesOf (vertices (f .tree .offsets)) (listOf (f .tree .offsets) (f .tree .targets)) (f .tree .root) t
+        → Begins out out′ r ((treeWord ++ (fields (0 ∷ vertices (f .tree .offsets) ∷ f .tree .root ∷ []) ++ newline)) ++ queryLines t 1 (f .queries))
     report-built t first tables =
-        let n : ℕ = vertices (f .offsets) in
-        let j : Judged f done t = record { first = first; built = λ z. tables } in
-        as-judged ((treeWord ++ (fields (0 ∷ n ∷ f .root ∷ []) ++ newline)) ++ queryLines t 1 (f .queries)) j
-        (built-report done t f refl ∙ ap (λ (l : List ℕ). l ++ queryLines t 1 (f .queries)) (tree-built done n (f .root) refl))
+        let n : ℕ = vertices (f .tree .offsets) in
+        let j : Judged (f .tree) done t = record { first = first; built = λ z. tables } in
+        as-judged ((treeWord ++ (fields (0 ∷ n ∷ f .tree .root ∷ []) ++ newline)) ++ queryLines t 1 (f .queries)) j
+        (built-report done t f refl ∙ ap (λ (l : List ℕ). l ++ queryLines t 1 (f .queries)) (tree-built done n (f .tree .root) refl))

@@ -26,13 +26,13 @@ use Rattle.treereport.proofs.Building.{few-ranges, few-vertices, judged
 
 -- the line of the tree
 abbrev lineOf : ℕ → TreeFile → List ℕ
-lineOf code f = treeText code (length (f .offsets) - 1) (f .root)
+lineOf code f = treeText code (length (f .tree .offsets) - 1) (f .tree .root)
 
 -- the report of a refused tree is its line, that of another has the lines of the queries behind it
-pub refused-report : (code : ℕ) (t : Six) (f : TreeFile) → (code ≡ 0 → ⊥) → fileReport code t f ≡ treeText code (length (f .offsets) - 1) (f .root)
+pub refused-report : (code : ℕ) (t : Six) (f : TreeFile) → (code ≡ 0 → ⊥) → fileReport code t f ≡ treeText code (length (f .tree .offsets) - 1) (f .tree .root)
 refused-report code t f ne = ap (λ (b : Bool). lineOf code f ++ pick b (queryLines t 1 (f .queries)) []) (ne-eqb code 0 ne) ∙ append-nil (lineOf code f)
 
-pub built-report : (code : ℕ) (t : Six) (f : TreeFile) → code ≡ 0 → fileReport code t f ≡ treeText code (length (f .offsets) - 1) (f .root) ++ queryLines t 1 (f .queries)
+pub built-report : (code : ℕ) (t : Six) (f : TreeFile) → code ≡ 0 → fileReport code t f ≡ treeText code (length (f .tree .offsets) - 1) (f .tree .root) ++ queryLines t 1 (f .queries)
 built-report code t f e = ap (λ (b : Bool). lineOf code f ++ pick b (queryLines t 1 (f .queries)) []) (eq-eqb code 0 e)
 
 -- the line of a tree fits
@@ -100,7 +100,7 @@ filed {f} {t} {t′} {out} {out′} {r} w =
     record {
       code = w .code;
       tables = t′;
-      judged = λ g e. subst (λ (x : TreeFile). Judged x (w .code) t′) (same-file e) (w .judged);
+      judged = λ g e. subst (λ (x : TreeFile). Judged (x .tree) (w .code) t′) (same-file e) (w .judged);
       bytes = front-puts (fileReport (w .code) t′ f) (w .text) (w .fits) .0;
       count = front-puts (fileReport (w .code) t′ f) (w .text) (w .fits) .1;
       fits = w .fits;

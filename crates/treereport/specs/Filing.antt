@@ -15,7 +15,7 @@ use Rattle.treereport.specs.Reports.{reportRoom, Judged}
 
 -- a file by its parts, the queries as the first ones of a plain list
 abbrev pub fileOf : List ℕ → List ℕ → ℕ → List ℕ → ℕ → TreeFile
-fileOf os ts root qs count = record { offsets = os; targets = ts; root = root; queries = queriesOf count qs }
+fileOf os ts root qs count = record { tree = record { offsets = os; targets = ts; root = root }; queries = queriesOf count qs }
 
 -- the parts of a well-formed file, and room for its report
 pub record FileAsks (os ts qs : List ℕ) (count : ℕ) (out : List ℕ) : Type 0 where
@@ -33,7 +33,7 @@ pub record TreeAsks (os ts : List ℕ) (t : Six) (qs : List ℕ) (count : ℕ) (
 -- the tables t became t′, by the build, and the report was put into out; "A refused call .. writes no table"
 pub record Told (f : TreeFile) (t t′ : Six) (out out′ : List ℕ) (r : ℕ) : Type 0 where
   pub code : ℕ
-  pub judged : Judged f code t′
+  pub judged : Judged (f .tree) code t′
   pub refused : code ≢ done → t′ ≡ t
   pub text : Puts (fileReport code t′ f) 0 out out′ r
   pub fits : r ≤ length out

@@ -1,11 +1,12 @@
 use borrow.Author.Needs.{needs}
-use Rattle.treefile.proofs.parse.parse.Statement.{statement}
-use Rattle.treefile.proofs.parse.parse.Tie as tie
 use native.Mathlib.Omega.{arith}
 use borrow.Author.Tests.{not-true, not-false}
-use Rattle.treefile.proofs.FileWords.{words-length}
+use Rattle.treefile.specs.File.{narrow}
+use Rattle.treefile.proofs.FileNumbers.{numbers-few}
 use Rattle.treefile.proofs.Places.{layout-of}
-use Rattle.treefile.proofs.Buffers.{parses-bad, parses-good, offsets-fit, targets-fit, queries-fit}
+use Rattle.treefile.proofs.Buffers.{parses-bad, parses-good, tree-fits, queries-fit}
+use Rattle.treefile.proofs.parse.parse.Statement.{statement}
+use Rattle.treefile.proofs.parse.parse.Tie as tie
 
 judge-requires : tie.Need-judge-requires
 judge-requires c κs = search needs
@@ -13,26 +14,28 @@ judge-requires c κs = search needs
 returns : tie.Need-returns
 returns c = parses-bad _ _ _ _ (c .before .before .judge .ensures) (not-true _ (c .if1 .taken))
 
-copy-words-requires : tie.Need-copy-words-requires
-copy-words-requires c κs = offsets-fit (layout-of _ _ (c .before .before .before .judge .ensures) (not-false _ (c .before .if1 .left))) (c .before .before .before .before .before .before .before .before .pre)
+copy-tree-requires : tie.Need-copy-tree-requires
+copy-tree-requires c κs =
+    let at-start = c .before .before .before .before .before .before .before .before .before in
+    tree-fits (layout-of narrow (at-start .args .bytes .now) _ (c .before .before .before .before .judge .ensures) (not-false _ (c .before .before .if1 .left))) (at-start .pre)
 
-add-copy-words : tie.Need-add-copy-words
-add-copy-words c = omega (arith, (layout-of _ _ (c .before .before .before .before .before .before .judge .ensures) (not-false _ (c .before .before .before .before .if1 .left))) .whole, words-length (c .before .before .before .before .before .before .before .before .before .before .before .args .bytes .now))
+mul-asked : tie.Need-mul-asked
+mul-asked c =
+    let at-start = c .before .before .before .before .before .before .before .before .before .before .before .before .before .before .before in
+    omega (arith, (layout-of narrow (at-start .args .bytes .now) _ (c .before .before .before .before .before .before .before .before .before .before .judge .ensures) (not-false _ (c .before .before .before .before .before .before .before .before .if1 .left))) .whole, numbers-few narrow (at-start .args .bytes .now))
 
-copy-words-requires-2 : tie.Need-copy-words-requires-2
-copy-words-requires-2 c κs = targets-fit (layout-of _ _ (c .before .before .before .before .before .before .before .judge .ensures) (not-false _ (c .before .before .before .before .before .if1 .left))) (c .before .before .before .before .before .before .before .before .before .before .before .before .pre)
+count-requires : tie.Need-count-requires
+count-requires c κs = search needs
 
-add-copy-words-2 : tie.Need-add-copy-words-2
-add-copy-words-2 c = omega (arith, (layout-of _ _ (c .before .before .before .before .before .before .before .before .before .before .judge .ensures) (not-false _ (c .before .before .before .before .before .before .before .before .if1 .left))) .whole, words-length (c .before .before .before .before .before .before .before .before .before .before .before .before .before .before .before .args .bytes .now))
+sub-first : tie.Need-sub-first
+sub-first c =
+    let at-start = c .before .before .before .before .before .before .before .before .before .before .before .before .before .before .before .before in
+    omega (arith, (layout-of narrow (at-start .args .bytes .now) _ (c .before .before .before .before .before .before .before .before .before .before .before .judge .ensures) (not-false _ (c .before .before .before .before .before .before .before .before .before .if1 .left))) .whole, c .count .ensures)
 
-add-copy-words-3 : tie.Need-add-copy-words-3
-add-copy-words-3 c = omega (arith, (layout-of _ _ (c .before .before .before .before .before .before .before .before .before .before .judge .ensures) (not-false _ (c .before .before .before .before .before .before .before .before .if1 .left))) .whole, words-length (c .before .before .before .before .before .before .before .before .before .before .before .before .before .before .before .args .bytes .now))
-
-mul-copy-words : tie.Need-mul-copy-words
-mul-copy-words c = omega (arith, (layout-of _ _ (c .before .before .before .before .before .before .before .before .before .before .before .judge .ensures) (not-false _ (c .before .before .before .before .before .before .before .before .before .if1 .left))) .whole, words-length (c .before .before .before .before .before .before .before .before .before .before .before .before .before .before .before .before .args .bytes .now))
-
-copy-words-requires-3 : tie.Need-copy-words-requires-3
-copy-words-requires-3 c κs = queries-fit (layout-of _ _ (c .before .before .before .before .before .before .before .before .before .before .before .before .judge .ensures) (not-false _ (c .before .before .before .before .before .before .before .before .before .before .if1 .left))) (c .before .before .before .before .before .before .before .before .before .before .before .before .before .before .before .before .before .pre)
+copy-numbers-requires : tie.Need-copy-numbers-requires
+copy-numbers-requires c κs =
+    let at-start = c .before .before .before .before .before .before .before .before .before .before .before .before .before .before .before .before .before in
+    queries-fit (layout-of narrow (at-start .args .bytes .now) _ (c .before .before .before .before .before .before .before .before .before .before .before .before .judge .ensures) (not-false _ (c .before .before .before .before .before .before .before .before .before .before .if1 .left))) (at-start .pre) _ (c .before .count .ensures)
 
 same-length : tie.Need-same-length
 same-length c = search needs
@@ -44,7 +47,10 @@ same-length-3 : tie.Need-same-length-3
 same-length-3 c = search needs
 
 returns-2 : tie.Need-returns-2
-returns-2 c = parses-good _ (c .before .before .before .before .before .before .before .before .before .before .before .before .before .before .before .judge .ensures) (layout-of _ _ (c .before .before .before .before .before .before .before .before .before .before .before .before .before .before .before .judge .ensures) (not-false _ (c .before .before .before .before .before .before .before .before .before .before .before .before .before .if1 .left))) (c .before .before .before .before .before .before .before .before .before .before .before .copy-words .ensures) (c .before .before .before .before .before .before .before .copy-words2 .ensures) (c .before .before .copy-words3 .ensures)
+returns-2 c =
+    let at-start = c .before .before .before .before .before .before .before .before .before .before .before .before .before .before .before .before .before .before .before .before in
+    let at-judge = c .before .before .before .before .before .before .before .before .before .before .before .before .before .before .before .judge in
+    parses-good (at-start .args .bytes .now) _ (at-judge .ensures) (layout-of narrow (at-start .args .bytes .now) _ (at-judge .ensures) (not-false _ (c .before .before .before .before .before .before .before .before .before .before .before .before .before .if1 .left))) (c .before .before .before .before .before .before .before .before .before .before .copy-tree .ensures) (c .before .before .before .before .count .ensures) (c .before .before .copy-numbers .ensures)
 
 pub parse-spec : {M : Type 1} → statement M
 parse-spec =
@@ -52,13 +58,11 @@ parse-spec =
     (tie.spec
     judge-requires
     returns
-    copy-words-requires
-    add-copy-words
-    copy-words-requires-2
-    add-copy-words-2
-    add-copy-words-3
-    mul-copy-words
-    copy-words-requires-3
+    copy-tree-requires
+    mul-asked
+    count-requires
+    sub-first
+    copy-numbers-requires
     same-length
     same-length-2
     same-length-3
