@@ -8,6 +8,7 @@ use mathlib.Core.Logic.{by-cases}
 use mathlib.Core.List.{List, [], _∷_, _++_}
 use lib.ListN.{length, length-append}
 use borrow.Author.Tests.{lt-ltb, le-ltb}
+use Rattle.treefile.specs.Sizes.{mostDigits}
 use Rattle.treefile.specs.Report.{digitsIn, decimal}
 
 digits-low : (k x : ℕ) → x < 10 → digitsIn (suc k) x ≡ (48 + x) ∷ []
@@ -69,6 +70,11 @@ pub decimal-high : (x : ℕ) → 10 ≤ x → x < 2 ^ 64 → decimal x ≡ decim
 decimal-high x high h =
     digits-high 19 x high ∙ ap (λ (l : List ℕ). l ++ ((48 + x % 10) ∷ [])) (sym (digits-enough 18 (x / 10) (omega arith)))
 
--- no number takes more than 20 bytes, and one below 2 ^ 32 at most 10
-pub decimal-room : (x : ℕ) → length (decimal x) ≤ 20
-decimal-room x = digits-room 20 x
+-- a number below 10 to the k has at most k digits
+pub decimal-digits : (k x : ℕ) → 0 < k → x < 10 ^ k → length (decimal x) ≤ k
+decimal-digits zero x some h = absurd (omega arith)
+decimal-digits (suc k) x some h = digits-short k mostDigits x h
+
+-- no number has more than the most
+pub decimal-room : (x : ℕ) → length (decimal x) ≤ mostDigits
+decimal-room x = digits-room mostDigits x

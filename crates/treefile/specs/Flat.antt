@@ -1,5 +1,5 @@
 -- What a writer reads of a lent flat list, and the parts of the report that it writes at once.
-use Prim.Native.Nat.{ℕ, zero, suc, _+_, _*_, _≤_}
+use Prim.Native.Nat.{ℕ, zero, suc, _+_, _*_, _^_, _≤_, _<_}
 use mathlib.Core.Path.{_≡_}
 use mathlib.Core.List.{List, [], _∷_, _++_}
 use lib.Dec.{eqb}
@@ -14,7 +14,8 @@ use Rattle.ranges.specs.declared.kinds.PathRange.{PathRange}
 use Rattle.ranges.specs.declared.kinds.Kind.{Kind}
 use Rattle.ranges.specs.declared.kinds.Listed.{Listed}
 use Rattle.ranges.specs.declared.kinds.Listed.the-variants.{Count, Refused}
-use Rattle.treefile.specs.Report.{decimal, space, newline, fields, treeWord, listText}
+use Rattle.treefile.specs.Report.{decimal, space, listText}
+use Rattle.treefile.specs.Sizes.{mostRanges, rangeDigits}
 use Rattle.treefile.specs.Writing.{Room}
 
 abbrev pub directionOf : ℕ → Direction
@@ -53,13 +54,19 @@ pub record ListRoom (a : Listed) (l : List ℕ) (at : ℕ) (out : List ℕ) : Ty
   pub whole : spokenOf a ≤ length l
   pub room : Room (listedText a l) at out
 
--- no list of these tables has more than 21 ranges, 2·floor(log2 n)+1 for the program's largest n of 1,024
-abbrev pub FewRanges : Six → Type 0
-FewRanges t = (k : Kind) (u v : ℕ) (l : List PathRange) → rangesOf k t u v ≡ listed l → length l ≤ 21
+-- the numbers of every range are below m
+abbrev pub Low : ℕ → List PathRange → Type 0
+Low m [] = Unit {0}
+Low m (r ∷ l) = (r .start < m) × (r .end < m) × Low m l
 
--- the line of a tree by its code, its number of vertices and its root
-abbrev pub treeText : ℕ → ℕ → ℕ → List ℕ
-treeText code n root = treeWord ++ (pick (eqb code 0) (fields (0 ∷ n ∷ root ∷ [])) (decimal code) ++ newline)
+-- no more ranges than a path of the program's trees has, and of no more digits
+pub record Short (l : List PathRange) : Type 0 where
+  pub few : length l ≤ mostRanges
+  pub low : Low (10 ^ rangeDigits) l
+
+-- every list of ranges of these tables is short
+abbrev pub ShortLists : Six → Type 0
+ShortLists t = (k : Kind) (u v : ℕ) (l : List PathRange) → rangesOf k t u v ≡ listed l → Short l
 
 -- what stands before a query's code
 abbrev pub queryHead : ℕ → ℕ → List ℕ

@@ -1,4 +1,5 @@
 pub mod File
+pub mod Sizes
 pub mod Report
 pub mod Writing
 pub mod Flat

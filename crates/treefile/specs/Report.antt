@@ -14,6 +14,7 @@ use Rattle.ranges.specs.declared.kinds.Direction.{Direction}
 use Rattle.ranges.specs.declared.kinds.Direction.the-variants.{Forward, Reversed}
 use Rattle.ranges.specs.declared.kinds.PathRange.{PathRange}
 use Rattle.ranges.specs.declared.kinds.Kind.the-variants.{Vertices, Edges, Both}
+use Rattle.treefile.specs.Sizes.{mostDigits}
 use Rattle.treefile.specs.File.{Query, TreeFile, Parsed, badFile, file}
 
 -- a number in decimal, in at most the given number of digits
@@ -22,7 +23,7 @@ digitsIn zero x = []
 digitsIn (suc k) x = elim (ltb x 10) [ true ↦ (48 + x) ∷ [] | false ↦ digitsIn k (x / 10) ++ ((48 + x % 10) ∷ []) ]
 
 abbrev pub decimal : ℕ → List ℕ
-decimal x = digitsIn 20 x
+decimal x = digitsIn mostDigits x
 
 abbrev pub space : List ℕ
 space = 32 ∷ []
@@ -80,12 +81,12 @@ abbrev pub treeWord : List ℕ
 treeWord = 116 ∷ 114 ∷ 101 ∷ 101 ∷ 32 ∷ []
 
 -- "A refused tree prints `tree` and its code"; "Else the first line is `tree`, code, n, root"
-abbrev pub treeLine : ℕ → TreeFile → List ℕ
-treeLine code f = treeWord ++ (pick (eqb code 0) (fields (0 ∷ (length (f .tree .offsets) - 1) ∷ f .tree .root ∷ [])) (decimal code) ++ newline)
+abbrev pub treeLine : (code n root : ℕ) → List ℕ
+treeLine code n root = treeWord ++ (pick (eqb code 0) (fields (0 ∷ n ∷ root ∷ [])) (decimal code) ++ newline)
 
 -- the report of a file whose tree got this code and, where it is 0, these tables
 abbrev pub fileReport : ℕ → Six → TreeFile → List ℕ
-fileReport code t f = treeLine code f ++ pick (eqb code 0) (queryLines t 1 (f .queries)) []
+fileReport code t f = treeLine code (length (f .tree .offsets) - 1) (f .tree .root) ++ pick (eqb code 0) (queryLines t 1 (f .queries)) []
 
 -- "BadFile, printed as `file 11` alone"
 abbrev pub badReport : List ℕ

@@ -6,8 +6,8 @@ use climb::answers::Refusal;
 use ranges::kinds::Listed;
 ghost use mathlib.Core.Path.{_≡_};
 ghost use Rattle.climb.specs.Answers.{refusalCode};
-ghost use Rattle.treefile.specs.Report.{badReport, numberText};
-ghost use Rattle.treefile.specs.Flat.{listedText, ListRoom, treeText, queryHead};
+ghost use Rattle.treefile.specs.Report.{badReport, numberText, treeLine};
+ghost use Rattle.treefile.specs.Flat.{listedText, ListRoom, queryHead};
 ghost use Rattle.treefile.specs.Writing.{Room, Puts};
 
 // The code of a refusal.
@@ -50,8 +50,8 @@ pub fn put_list(out: &mut [u8], at: usize, answer: Listed, flat: &[u32]) -> usiz
 
 // The line of a tree: its code, and for code 0 its number of vertices and its root.
 pub fn put_tree_line(out: &mut [u8], at: usize, code: u32, n: usize, root: usize) -> usize
-    requires { ⌜ Room (treeText code n root) at (now out) ⌝ }
-    ensures { λ r. ⌜ Puts (treeText code n root) at (now (out .entry)) (now (out .exit)) r ⌝ }
+    requires { ⌜ Room (treeLine code n root) at (now out) ⌝ }
+    ensures { λ r. ⌜ Puts (treeLine code n root) at (now (out .entry)) (now (out .exit)) r ⌝ }
 {
     let first = numbers::put_bytes(out, at, b"tree ");
     if code != 0 {

@@ -1,4 +1,4 @@
--- Laws of the tree of a file: the tests of its build, and that no path on its tables has more than 21 ranges.
+-- Laws of the tree of a file: the tests of its build, and that the ranges of a path on its tables are few, of few digits.
 use Prim.Native.Nat.{ℕ, _≤_, _<_, _^_}
 use native.Mathlib.Omega.{arith}
 use native.Mathlib.Decide.{decLe}
@@ -22,10 +22,14 @@ use Rattle.pathlaws.specs.Given.{Given}
 use Rattle.pathlaws.proofs.Standing.{answered, asked-or-refused}
 use Rattle.ranges.specs.Calls.{Answered, refused, listed, fromFound, rangesOf}
 use Rattle.ranges.specs.Ranges.{Found, lost, found, pathRanges}
+use Rattle.ranges.specs.declared.kinds.Kind.{Kind}
+use Rattle.ranges.specs.declared.kinds.Kind.the-variants.{Vertices, Edges, Both}
 use Rattle.ranges.specs.declared.kinds.PathRange.{PathRange}
-use Rattle.readings.proofs.Bounds.{ranges-room}
+use Rattle.readings.specs.Numbers.{lastEnd, Within}
+use Rattle.readings.proofs.Bounds.{ranges-room, ranges-within}
 use Rattle.treefile.specs.File.{TreeSections, maxOffsets, maxFileTargets}
-use Rattle.treefile.specs.Flat.{FewRanges}
+use Rattle.treefile.specs.Flat.{Low, ShortLists}
+use Rattle.treefile.specs.Sizes.{rangeDigits}
 use Rattle.treereport.specs.Reports.{treeTests, Judged}
 use Rattle.treereport.specs.Filing.{fileOf, FileAsks, TreeAsks}
 
@@ -46,16 +50,27 @@ found-list : (f : Found) (l : List PathRange) → fromFound f ≡ listed l → f
 found-list lost l e = absurd (let z : _≡_ {A = ℕ} 0 1 = cc in omega arith)
 found-list (found m) l e = let s : m ≡ l = cc in ap found s
 
--- no path on the tables of a tree of at most 1,024 vertices has more than 21 ranges
-pub few-ranges : {n root : ℕ} {A : ℕ → List ℕ} {t : Six} {kids : ℕ → List ℕ} → NumberingOf n A root t kids → n ≤ 1_024 → FewRanges t
+-- ranges that end at m have numbers of few digits, where m has
+low-within : (m : ℕ) (l : List PathRange) → Within m l → m < 10 ^ rangeDigits → Low (10 ^ rangeDigits) l
+low-within m [] w h = tt
+low-within m (r ∷ l) (some, ends, rest) h = (omega arith, omega arith, low-within m l rest h)
+
+last-end : (k : Kind) (n : ℕ) → n ≤ 1_024 → lastEnd k n < 10 ^ rangeDigits
+last-end Vertices n h = omega arith
+last-end Edges n h = omega arith
+last-end Both n h = omega arith
+
+-- a path on the tables of a tree of at most 1,024 vertices has few ranges, of few digits
+pub short-lists : {n root : ℕ} {A : ℕ → List ℕ} {t : Six} {kids : ℕ → List ℕ} → NumberingOf n A root t kids → n ≤ 1_024 → ShortLists t
 unfolding maxVertices rangesOf
-few-ranges {n} {root} {A} {t} {kids} N h k u v l e =
+short-lists {n} {root} {A} {t} {kids} N h k u v l e =
     ⊎-elim
     (λ b.
     let is : fromFound (pathRanges k n t u v) ≡ listed l = sym (answered G (u ∷ v ∷ []) refused (λ (m : ℕ). fromFound (pathRanges k m t u v)) b) ∙ e in
-    let r = ranges-room G k (b .0) (b .1 .0) l (found-list (pathRanges k n t u v) l is) in
-    let t = log2-ten n h in
-    omega arith)
+    let f : pathRanges k n t u v ≡ found l = found-list (pathRanges k n t u v) l is in
+    let most = ranges-room G k (b .0) (b .1 .0) l f in
+    let ten = log2-ten n h in
+    record { few = omega arith; low = low-within (lastEnd k n) l (ranges-within G k (b .0) (b .1 .0) l f) (last-end k n h) })
     (λ w. absurd (never (rangesOf k t u v) e w))
     (asked-or-refused G (u ∷ v ∷ []) refused (fromFound (pathRanges k (sizeOf t) t u v)))
   where

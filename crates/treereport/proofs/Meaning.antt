@@ -14,8 +14,7 @@ use Rattle.graph.proofs.Judging.{first-one}
 use Rattle.tables.specs.Tables.{Six, TablesOf}
 use Rattle.hld.proofs.Meaning.{tables-one}
 use Rattle.treefile.specs.File.{TreeFile, Parsed, badFile, file, parseFile}
-use Rattle.treefile.specs.Report.{decimal, newline, fields, treeWord, queryLines, badReport, fileReport, report}
-use Rattle.treefile.specs.Flat.{treeText}
+use Rattle.treefile.specs.Report.{decimal, newline, fields, treeWord, treeLine, queryLines, badReport, fileReport, report}
 use Rattle.treefile.specs.Parsing.{front}
 use Rattle.treefile.proofs.Report.{tree-refused, tree-built}
 use Rattle.treereport.specs.Reports.{reportRoom, treeTests, Judged, Written, Reports}
@@ -29,7 +28,7 @@ judged-one f {c₁} {c₂} {t₁} {t₂} j₁ j₂ =
     equal-or-not c₁ 0
     (λ z. ap₂ (λ (c : ℕ) (t : Six). fileReport c t f) same (tables-one (j₁ .built z) (j₂ .built (sym same ∙ z))))
     (λ d. refused-report c₁ t₁ f d
-    ∙ ap (λ (c : ℕ). treeText c (length (f .tree .offsets) - 1) (f .tree .root)) same
+    ∙ ap (λ (c : ℕ). treeLine c (length (f .tree .offsets) - 1) (f .tree .root)) same
     ∙ sym (refused-report c₂ t₂ f (λ z. d (same ∙ z))))
 
 text-one : (p : Parsed) {out o₁ o₂ : List ℕ} {r₁ r₂ : ℕ} (a : Written p out o₁ r₁) (b : Written p out o₂ r₂)

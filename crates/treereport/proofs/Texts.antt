@@ -1,5 +1,5 @@
 -- Laws of a query's answer: its kind decides which call gives it, and its text is what that call's answer says.
-use Prim.Native.Nat.{ℕ, _≤_, _<_}
+use Prim.Native.Nat.{ℕ, _*_, _≤_, _<_}
 use native.Mathlib.Omega.{arith}
 use mathlib.Core.Path.{_≡_, refl, sym, ap, _∙_}
 use mathlib.Core.Logic.{_⊎_, inl, inr}
@@ -16,7 +16,8 @@ use Rattle.ranges.specs.declared.kinds.Kind.the-variants.{Vertices, Edges, Both
 use Rattle.ranges.specs.declared.kinds.Listed.{Listed}
 use Rattle.ranges.specs.declared.kinds.PathRange.{PathRange}
 use Rattle.treefile.specs.Report.{numberText, listText, answerText}
-use Rattle.treefile.specs.Flat.{FewRanges, listedText, spokenOf, numbersOf, ListRoom}
+use Rattle.treefile.specs.Flat.{Short, ShortLists, listedText, spokenOf, numbersOf, ListRoom}
+use Rattle.treefile.specs.Sizes.{mostRanges}
 use Rattle.treefile.specs.Writing.{Room}
 use Rattle.treefile.proofs.Flat.{listed-text, spoken-there}
 use Rattle.treefile.proofs.Writing.{room-as}
@@ -88,15 +89,15 @@ kind-seven {k} e = rw (ne-eqb k 6 (λ x. omega arith), eq-eqb k 7 e)
 pub kind-other : {k : ℕ} → (k ≡ 6 → ⊥) → (k ≡ 7 → ⊥) → kindOf k ≡ Both
 kind-other {k} n₆ n₇ = rw (ne-eqb k 6 n₆, ne-eqb k 7 n₇)
 
--- an answer of at most 21 ranges takes at most 63 numbers
-few-numbers : (a : Answered) → ((l : List PathRange) → a ≡ listed l → length l ≤ 21) → numbersOf a ≤ 63
-few-numbers (refused x) few = omega arith
-few-numbers (listed l) few = omega (arith, few l refl)
+-- a short answer takes three numbers a range
+few-numbers : (a : Answered) → ((l : List PathRange) → a ≡ listed l → Short l) → numbersOf a ≤ 3 * mostRanges
+few-numbers (refused x) short = omega arith
+few-numbers (listed l) short = omega (arith, short l refl .few)
 
--- what a call for ranges left in a list of 63 numbers is the text of its answer
-module _ (t : Six) (few : FewRanges t) (kind : Kind) (u v : ℕ) {lent left : List ℕ} {r : Listed} (h : ListedAs (rangesOf kind t u v) lent left r) (long : 63 ≤ length lent) where
+-- what a call for ranges left in a list that holds any short answer is the text of its answer
+module _ (t : Six) (short : ShortLists t) (kind : Kind) (u v : ℕ) {lent left : List ℕ} {r : Listed} (h : ListedAs (rangesOf kind t u v) lent left r) (long : 3 * mostRanges ≤ length lent) where
   enough : numbersOf (rangesOf kind t u v) ≤ length lent
-  enough = let f = few-numbers (rangesOf kind t u v) (few kind u v) in omega arith
+  enough = let f = few-numbers (rangesOf kind t u v) (short kind u v) in omega arith
 
   pub left-text : listedText r left ≡ listText (rangesOf kind t u v)
   left-text = rw (h .answer, h .list) (listed-text (rangesOf kind t u v) lent enough)

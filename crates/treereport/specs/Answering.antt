@@ -11,7 +11,7 @@ use Rattle.ranges.specs.declared.kinds.Kind.{Kind}
 use Rattle.ranges.specs.declared.kinds.Kind.the-variants.{Vertices, Edges, Both}
 use Rattle.treefile.specs.File.{Query}
 use Rattle.treefile.specs.Report.{listText, answerText}
-use Rattle.treefile.specs.Flat.{FewRanges}
+use Rattle.treefile.specs.Flat.{ShortLists}
 use Rattle.treefile.specs.Writing.{Room}
 
 -- a query by its four numbers
@@ -32,10 +32,10 @@ kindOf kind = pick (eqb kind 6) Vertices (pick (eqb kind 7) Edges Both)
 
 -- no path of these tables has too many ranges, and the text of this one fits
 pub record PathAsks (t : Six) (kind : Kind) (u v at : ℕ) (out : List ℕ) : Type 0 where
-  pub few : FewRanges t
+  pub short : ShortLists t
   pub room : Room (listText (rangesOf kind t u v)) at out
 
 -- the same of a query of any kind
 pub record AnswerAsks (t : Six) (q : Query) (at : ℕ) (out : List ℕ) : Type 0 where
-  pub few : FewRanges t
+  pub short : ShortLists t
   pub room : Room (answerText t q) at out

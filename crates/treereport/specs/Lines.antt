@@ -6,7 +6,7 @@ use Rattle.tables.specs.Tables.{Six}
 use Rattle.treefile.specs.File.{Query}
 use Rattle.treefile.specs.Report.{queryLine, queryLines}
 use Rattle.treefile.specs.Sections.{queryAt}
-use Rattle.treefile.specs.Flat.{FewRanges}
+use Rattle.treefile.specs.Flat.{ShortLists}
 use Rattle.treefile.specs.Writing.{Room}
 
 -- the first k queries of a plain list, four numbers to a query
@@ -16,7 +16,7 @@ queriesOf (suc k) l = queriesOf k l ++ (queryAt l (4 * k) ∷ [])
 
 -- the line of a query fits
 pub record LineAsks (t : Six) (place : ℕ) (q : Query) (at : ℕ) (out : List ℕ) : Type 0 where
-  pub few : FewRanges t
+  pub short : ShortLists t
   pub room : Room (queryLine t place q) at out
 
 -- the query at index i is there, and its line fits
@@ -26,6 +26,6 @@ pub record PlaceAsks (t : Six) (qs : List ℕ) (i at : ℕ) (out : List ℕ) : T
 
 -- so many queries are there, and their lines fit
 pub record LinesAsk (t : Six) (qs : List ℕ) (count at : ℕ) (out : List ℕ) : Type 0 where
-  pub few : FewRanges t
+  pub short : ShortLists t
   pub there : 4 * count ≤ length qs
   pub room : Room (queryLines t 1 (queriesOf count qs)) at out

@@ -19,8 +19,11 @@ ghost use Rattle.treefile.specs.Report.{listText, answerText};
 ghost use Rattle.treefile.specs.Writing.{Puts};
 ghost use Rattle.treereport.specs.Answering.{query, numberOf, kindOf, PathAsks, AnswerAsks};
 
-// Numbers for the 21 ranges that a path among 1,024 vertices can have.
-const RANGE_NUMBERS: usize = 63;
+// The most ranges of a path among the 1,024 vertices that a file's tree can have.
+const MOST_RANGES: usize = 21;
+
+// Three numbers a range.
+const RANGE_NUMBERS: usize = 3 * MOST_RANGES;
 
 // The answer to a query of the kinds 1 to 5.
 fn number_answer(

@@ -15,7 +15,7 @@ put-answer-requires : tie.Need-put-answer-requires
 put-answer-requires c κs = room-as (sym (ap numberText (c .before .number-answer .ensures) ∙ number-text _ _ _ _ _ (omega arith) (omega arith))) (c .before .before .before .before .before .before .before .before .before .before .before .pre .room)
 
 put-path-requires : tie.Need-put-path-requires
-put-path-requires c κs = record { few = c .before .before .before .before .before .before .before .before .before .pre .few; room = room-as (sym (path-text _ _ _ _ _ (⊎-elim (λ w. inl (omega arith)) (λ w. inr (omega arith)) (c .before .if1 .came)))) (c .before .before .before .before .before .before .before .before .before .pre .room) }
+put-path-requires c κs = record { short = c .before .before .before .before .before .before .before .before .before .pre .short; room = room-as (sym (path-text _ _ _ _ _ (⊎-elim (λ w. inl (omega arith)) (λ w. inr (omega arith)) (c .before .if1 .came)))) (c .before .before .before .before .before .before .before .before .before .pre .room) }
 
 same-length : tie.Need-same-length
 same-length c = search needs

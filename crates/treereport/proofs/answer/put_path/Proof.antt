@@ -15,13 +15,13 @@ slice-aggregate-put-list : tie.Need-slice-aggregate-put-list
 slice-aggregate-put-list c = search needs
 
 put-list-requires : tie.Need-put-list-requires
-put-list-requires c κs = left-room _ (c .before .before .before .before .before .before .before .before .before .before .before .before .pre .few) _ _ _ (c .before .before .before .path-answer .ensures) (omega arith) (c .before .before .before .before .before .before .before .before .before .before .before .before .pre .room)
+put-list-requires c κs = left-room _ (c .before .before .before .before .before .before .before .before .before .before .before .before .pre .short) _ _ _ (c .before .before .before .path-answer .ensures) (omega arith) (c .before .before .before .before .before .before .before .before .before .before .before .before .pre .room)
 
 same-length : tie.Need-same-length
 same-length c = search needs
 
 returns : tie.Need-returns
-returns c = puts-as (left-text _ (c .before .before .before .before .before .before .before .before .before .before .before .before .before .before .before .pre .few) _ _ _ (c .before .before .before .before .before .before .path-answer .ensures) (omega arith)) (c .before .before .put-list .ensures)
+returns c = puts-as (left-text _ (c .before .before .before .before .before .before .before .before .before .before .before .before .before .before .before .pre .short) _ _ _ (c .before .before .before .before .before .before .path-answer .ensures) (omega arith)) (c .before .before .put-list .ensures)
 
 pub put-path-spec : {M : Type 1} → statement M
 put-path-spec =

@@ -23,7 +23,7 @@ loop-holds c = (puts-none _ _, omega arith)
 put-query-at-requires : tie.Need-put-query-at-requires Inv-loop μ-loop
 put-query-at-requires c κs =
     let at-start = c .before .before .before .before .before .before .before .before .before .before .before in
-    record { there = omega (arith, at-start .pre .there); line = record { few = at-start .pre .few; room = lines-room _ _ _ _ (c .before .loop-test .taken) (c .before .before .loop .inv .0) (at-start .pre .room) } }
+    record { there = omega (arith, at-start .pre .there); line = record { short = at-start .pre .short; room = lines-room _ _ _ _ (c .before .loop-test .taken) (c .before .before .loop .inv .0) (at-start .pre .room) } }
 
 add-i : tie.Need-add-i Inv-loop μ-loop
 add-i c = omega arith

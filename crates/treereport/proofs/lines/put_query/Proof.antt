@@ -9,7 +9,7 @@ put-query-head-requires : tie.Need-put-query-head-requires
 put-query-head-requires c κs = room-first _ (room-as (query-line _ _ _) (c .before .before .before .before .before .before .before .before .pre .room))
 
 answer-query-requires : tie.Need-answer-query-requires
-answer-query-requires c κs = record { few = c .before .before .before .before .before .before .before .before .before .before .before .before .pre .few; room = room-first _ (room-then (c .before .before .before .put-query-head .ensures) (room-as (query-line _ _ _) (c .before .before .before .before .before .before .before .before .before .before .before .before .pre .room))) }
+answer-query-requires c κs = record { short = c .before .before .before .before .before .before .before .before .before .before .before .before .pre .short; room = room-first _ (room-then (c .before .before .before .put-query-head .ensures) (room-as (query-line _ _ _) (c .before .before .before .before .before .before .before .before .before .before .before .before .pre .room))) }
 
 put-byte-requires : tie.Need-put-byte-requires
 put-byte-requires c κs = room-then (c .before .before .before .answer-query .ensures) (room-then (c .before .before .before .before .before .before .before .put-query-head .ensures) (room-as (query-line _ _ _) (c .before .before .before .before .before .before .before .before .before .before .before .before .before .before .before .before .pre .room)))
