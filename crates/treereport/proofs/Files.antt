@@ -16,10 +16,10 @@ use Rattle.treefile.specs.Parsing.{shapeOf, offsetsOf, targetsOf, queriesOf, qu
 use Rattle.treefile.specs.Writing.{Puts}
 use Rattle.treefile.proofs.FileNumbers.{numbers-length}
 use Rattle.treefile.proofs.Places.{Layout, layout-of, left-bad}
-use Rattle.treereport.specs.Lines.{queriesOf as firstQueries}
+use Rattle.querylines.specs.Lines.{queriesOf as firstQueries}
 use Rattle.treereport.specs.Reports.{reportRoom, Written, Reports}
 use Rattle.treereport.specs.Filing.{fileOf, FileAsks}
-use Rattle.treereport.proofs.Placing.{queries-back}
+use Rattle.querylines.proofs.Placing.{queries-back}
 use Rattle.treereport.proofs.Telling.{front-puts}
 
 -- a list with numbers put in front is no shorter

@@ -1,5 +1,3 @@
-pub mod Texts
-pub mod Placing
 pub mod Building
 pub mod Telling
 pub mod Files

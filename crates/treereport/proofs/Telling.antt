@@ -19,10 +19,10 @@ use Rattle.treefile.specs.Parsing.{front}
 use Rattle.treefile.specs.Writing.{Room, Puts}
 use Rattle.treefile.proofs.Writing.{puts-then, puts-as, room-then}
 use Rattle.treefile.proofs.Report.{tree-line-room, report-room}
-use Rattle.treereport.specs.Lines.{queriesOf, LinesAsk}
+use Rattle.querylines.specs.Lines.{queriesOf, LinesAsk}
 use Rattle.treereport.specs.Reports.{reportRoom, Judged, Written}
 use Rattle.treereport.specs.Filing.{fileOf, FileAsks, TreeAsks, Told}
-use Rattle.treereport.proofs.Placing.{queries-count}
+use Rattle.querylines.proofs.Placing.{queries-count}
 use Rattle.treereport.proofs.Building.{short-lists, few-vertices, judged}
 
 -- the line of the tree

@@ -10,7 +10,7 @@ use Rattle.tables.specs.Tables.{Six, Long}
 use Rattle.treefile.specs.File.{TreeFile, maxOffsets, maxFileTargets, maxQueries}
 use Rattle.treefile.specs.Report.{fileReport}
 use Rattle.treefile.specs.Writing.{Puts}
-use Rattle.treereport.specs.Lines.{queriesOf}
+use Rattle.querylines.specs.Lines.{queriesOf}
 use Rattle.treereport.specs.Reports.{reportRoom, Judged}
 
 -- a file by its parts, the queries as the first ones of a plain list

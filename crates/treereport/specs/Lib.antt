@@ -1,4 +1,2 @@
-pub mod Answering
-pub mod Lines
 pub mod Reports
 pub mod Filing

@@ -1,8 +1,8 @@
 // The report of a whole file.
-use crate::lines::put_queries;
 use graph::codes::DONE;
 use graph::lists::vertices;
 use hld::build::try_hld;
+use querylines::lines::put_queries;
 use treefile::judge::MAX_OFFSETS;
 use treefile::judge::MAX_QUERIES;
 use treefile::judge::MAX_TARGETS;

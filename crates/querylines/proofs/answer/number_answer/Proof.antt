@@ -1,8 +1,8 @@
 use borrow.Author.Needs.{needs}
 use mathlib.Core.Path.{sym, _∙_}
-use Rattle.treereport.proofs.Texts.{one-number, two-number, three-number, four-number, other-number}
-use Rattle.treereport.proofs.answer.number_answer.Statement.{statement}
-use Rattle.treereport.proofs.answer.number_answer.Tie as tie
+use Rattle.querylines.proofs.Texts.{one-number, two-number, three-number, four-number, other-number}
+use Rattle.querylines.proofs.answer.number_answer.Statement.{statement}
+use Rattle.querylines.proofs.answer.number_answer.Tie as tie
 
 distance-requires : tie.Need-distance-requires
 distance-requires c κs = search needs

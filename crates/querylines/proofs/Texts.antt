@@ -21,7 +21,7 @@ use Rattle.treefile.specs.Sizes.{mostRanges}
 use Rattle.treefile.specs.Writing.{Room}
 use Rattle.treefile.proofs.Flat.{listed-text, spoken-there}
 use Rattle.treefile.proofs.Writing.{room-as}
-use Rattle.treereport.specs.Answering.{query, numberOf, kindOf}
+use Rattle.querylines.specs.Answering.{query, numberOf, kindOf}
 
 module _ (t : Six) (k a b c : ℕ) where
   -- which call answers each kind

@@ -1,9 +1,9 @@
 use Rattle.treefile.proofs.Writing.{puts-as}
 use native.Mathlib.Omega.{arith}
-use Rattle.treereport.proofs.Texts.{left-room, left-text}
+use Rattle.querylines.proofs.Texts.{left-room, left-text}
 use borrow.Author.Needs.{needs}
-use Rattle.treereport.proofs.answer.put_path.Statement.{statement}
-use Rattle.treereport.proofs.answer.put_path.Tie as tie
+use Rattle.querylines.proofs.answer.put_path.Statement.{statement}
+use Rattle.querylines.proofs.answer.put_path.Tie as tie
 
 slice-aggregate-path-answer : tie.Need-slice-aggregate-path-answer
 slice-aggregate-path-answer c = search needs

@@ -1,5 +1,5 @@
-use Rattle.treereport.proofs.Placing.{lines-room, lines-more}
-use Rattle.treereport.specs.Lines.{queriesOf}
+use Rattle.querylines.proofs.Placing.{lines-room, lines-more}
+use Rattle.querylines.specs.Lines.{queriesOf}
 use Rattle.treefile.proofs.Writing.{puts-as, puts-length, puts-none}
 use Rattle.treefile.specs.Writing.{Puts}
 use Rattle.treefile.specs.Report.{queryLines}
@@ -7,8 +7,8 @@ use Rattle.tables.specs.Tables.{six}
 use Prim.Native.Nat.{ℕ, _≤_, _-_}
 use mathlib.Core.Path.{_≡_, ap}
 use native.Mathlib.Omega.{arith}
-use Rattle.treereport.proofs.lines.put_queries.Statement.{statement}
-use Rattle.treereport.proofs.lines.put_queries.Tie as tie
+use Rattle.querylines.proofs.lines.put_queries.Statement.{statement}
+use Rattle.querylines.proofs.lines.put_queries.Tie as tie
 
 abbrev Inv-loop : tie.InvT-loop
 Inv-loop parent depth head id order size queries count out₀ at next₀ i₀ out next i =

@@ -18,8 +18,8 @@ use Rattle.treefile.specs.Writing.{Room, Puts}
 use Rattle.treefile.proofs.Writing.{puts-then, puts-as, room-then, room-as}
 use Rattle.treefile.proofs.Report.{query-lines-more}
 use Rattle.treefile.proofs.Queries.{query-read}
-use Rattle.treereport.specs.Answering.{query}
-use Rattle.treereport.specs.Lines.{queriesOf}
+use Rattle.querylines.specs.Answering.{query}
+use Rattle.querylines.specs.Lines.{queriesOf}
 
 -- how many queries a plain list gives
 pub queries-count : (k : ℕ) (l : List ℕ) → length (queriesOf k l) ≡ k

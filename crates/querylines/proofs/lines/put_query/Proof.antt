@@ -2,8 +2,8 @@ use Rattle.treefile.proofs.Report.{query-line}
 use Rattle.treefile.proofs.Writing.{puts-as, puts-then, room-as, room-first, room-then}
 use mathlib.Core.Path.{sym}
 use borrow.Author.Needs.{needs}
-use Rattle.treereport.proofs.lines.put_query.Statement.{statement}
-use Rattle.treereport.proofs.lines.put_query.Tie as tie
+use Rattle.querylines.proofs.lines.put_query.Statement.{statement}
+use Rattle.querylines.proofs.lines.put_query.Tie as tie
 
 put-query-head-requires : tie.Need-put-query-head-requires
 put-query-head-requires c κs = room-first _ (room-as (query-line _ _ _) (c .before .before .before .before .before .before .before .before .pre .room))

@@ -1,7 +1,7 @@
 use mir.Facts.{fits-widen}
 use borrow.Author.Needs.{needs}
-use Rattle.treereport.proofs.lines.put_query_at.Statement.{statement}
-use Rattle.treereport.proofs.lines.put_query_at.Tie as tie
+use Rattle.querylines.proofs.lines.put_query_at.Statement.{statement}
+use Rattle.querylines.proofs.lines.put_query_at.Tie as tie
 
 mul-kind : tie.Need-mul-kind
 mul-kind c = search needs

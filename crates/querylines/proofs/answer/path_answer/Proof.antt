@@ -1,7 +1,7 @@
-use Rattle.treereport.proofs.Texts.{kind-six, kind-seven, kind-other}
+use Rattle.querylines.proofs.Texts.{kind-six, kind-seven, kind-other}
 use borrow.Author.Needs.{needs}
-use Rattle.treereport.proofs.answer.path_answer.Statement.{statement}
-use Rattle.treereport.proofs.answer.path_answer.Tie as tie
+use Rattle.querylines.proofs.answer.path_answer.Statement.{statement}
+use Rattle.querylines.proofs.answer.path_answer.Tie as tie
 
 vertex-path-ranges-requires : tie.Need-vertex-path-ranges-requires
 vertex-path-ranges-requires c κs = search needs

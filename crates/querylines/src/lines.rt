@@ -7,8 +7,8 @@ ghost use Rattle.tables.specs.Tables.{lent, sixOf};
 ghost use Rattle.treefile.specs.Report.{queryLine, queryLines};
 ghost use Rattle.treefile.specs.Sections.{queryAt};
 ghost use Rattle.treefile.specs.Writing.{Puts};
-ghost use Rattle.treereport.specs.Answering.{query};
-ghost use Rattle.treereport.specs.Lines.{queriesOf, LineAsks, PlaceAsks, LinesAsk};
+ghost use Rattle.querylines.specs.Answering.{query};
+ghost use Rattle.querylines.specs.Lines.{queriesOf, LineAsks, PlaceAsks, LinesAsk};
 
 // The end of a line.
 const NEWLINE: u8 = 10;
@@ -88,7 +88,7 @@ fn put_query_at(
 }
 
 // The lines of the first queries of a plain list.
-pub(crate) fn put_queries(
+pub fn put_queries(
     parent: &[u32],
     depth: &[u32],
     head: &[u32],

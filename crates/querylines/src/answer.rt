@@ -17,7 +17,7 @@ ghost use Rattle.ranges.specs.Calls.{rangesOf};
 ghost use Rattle.ranges.specs.Inner.{ListedAs};
 ghost use Rattle.treefile.specs.Report.{listText, answerText};
 ghost use Rattle.treefile.specs.Writing.{Puts};
-ghost use Rattle.treereport.specs.Answering.{query, numberOf, kindOf, PathAsks, AnswerAsks};
+ghost use Rattle.querylines.specs.Answering.{query, numberOf, kindOf, PathAsks, AnswerAsks};
 
 // The most ranges of a path among the 1,024 vertices that a file's tree can have.
 const MOST_RANGES: usize = 21;

@@ -3,10 +3,10 @@ use Rattle.treefile.specs.Report.{numberText}
 use mathlib.Core.Path.{sym, ap, _∙_}
 use Rattle.treefile.proofs.Writing.{puts-as, room-as}
 use native.Mathlib.Omega.{arith}
-use Rattle.treereport.proofs.Texts.{number-text, path-text}
+use Rattle.querylines.proofs.Texts.{number-text, path-text}
 use borrow.Author.Needs.{needs}
-use Rattle.treereport.proofs.answer.answer_query.Statement.{statement}
-use Rattle.treereport.proofs.answer.answer_query.Tie as tie
+use Rattle.querylines.proofs.answer.answer_query.Statement.{statement}
+use Rattle.querylines.proofs.answer.answer_query.Tie as tie
 
 number-answer-requires : tie.Need-number-answer-requires
 number-answer-requires c κs = search needs
