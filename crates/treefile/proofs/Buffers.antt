@@ -1,4 +1,4 @@
--- Laws of `parse`: a bad file changes no buffer, and the parts of a well-formed one fit and are copied.
+-- Laws of reading a whole file: a bad file changes no buffer, and the parts of a well-formed one fit and are copied.
 use Prim.Native.Nat.{ℕ, _+_, _-_, _*_, _≤_}
 use native.Mathlib.Omega.{arith}
 use mathlib.Core.Path.{_≡_, refl, sym, ap, _∙_}
@@ -6,7 +6,7 @@ use mathlib.Core.Bool.{false, true≢false}
 use mathlib.Core.List.{List}
 use lib.ListN.{length, take, drop, length-drop}
 use Rattle.treefile.specs.declared.judge.Shape.{Shape}
-use Rattle.treefile.specs.File.{numbers, narrow, Parsed, badFile, file, parseFile}
+use Rattle.treefile.specs.File.{numbers, Parsed, badFile, file, parseAs}
 use Rattle.treefile.specs.Parsing.{shapeOf, front, Buffers, Parses}
 use Rattle.treefile.specs.Sections.{Copies, copied, TreeCopies, TreeCopied}
 use Rattle.treefile.proofs.FileNumbers.{copy-front}
@@ -16,9 +16,9 @@ not-good : (p : Parsed) → shapeOf p .good ≡ false → p ≡ badFile
 not-good badFile e = refl
 not-good (file f) e = absurd (true≢false e)
 
-pub parses-bad : (bytes os ts qs : List ℕ) {r : Shape} → r ≡ shapeOf (parseFile bytes) → r .good ≡ false → Parses bytes os ts qs os ts qs r
-parses-bad bytes os ts qs {r} e wrong =
-    let is = not-good (parseFile bytes) (ap (λ (x : Shape). x .good) (sym e) ∙ wrong) in
+pub parses-bad : (w : ℕ) (bytes os ts qs : List ℕ) {r : Shape} → r ≡ shapeOf (parseAs w bytes) → r .good ≡ false → Parses w bytes os ts qs os ts qs r
+parses-bad w bytes os ts qs {r} e wrong =
+    let is = not-good (parseAs w bytes) (ap (λ (x : Shape). x .good) (sym e) ∙ wrong) in
     record { shape = e; offsets = rw is; targets = rw is; queries = rw is }
 
 module _ {ws os ts qs : List ℕ} {p : Parsed} {r : Shape} (l : Layout ws p r) (b : Buffers os ts qs) where
@@ -38,11 +38,11 @@ fronted lent ws p n h is copies =
     let d = length-drop p ws in
     copies ∙ copy-front (drop p ws) lent n (omega arith) ∙ ap (λ (x : List ℕ). front x lent) (sym is)
 
-pub parses-good : (bytes : List ℕ) (n : ℕ) {os ts qs os′ ts′ qs′ : List ℕ} {r : Shape} → r ≡ shapeOf (parseFile bytes) → Layout (numbers narrow bytes) (parseFile bytes) r
-    → TreeCopied (numbers narrow bytes) 0 (r .offsets) (r .targets) os ts os′ ts′ → n ≡ length (numbers narrow bytes)
-    → qs′ ≡ copied (numbers narrow bytes) (n - 4 * r .queries) (4 * r .queries) qs → Parses bytes os ts qs os′ ts′ qs′ r
-parses-good bytes n {os} {ts} {qs} {r = r} e l tree m eq =
-    let ws : List ℕ = numbers narrow bytes in
+pub parses-good : (w : ℕ) (bytes : List ℕ) (n : ℕ) {os ts qs os′ ts′ qs′ : List ℕ} {r : Shape} → r ≡ shapeOf (parseAs w bytes) → Layout (numbers w bytes) (parseAs w bytes) r
+    → TreeCopied (numbers w bytes) 0 (r .offsets) (r .targets) os ts os′ ts′ → n ≡ length (numbers w bytes)
+    → qs′ ≡ copied (numbers w bytes) (n - 4 * r .queries) (4 * r .queries) qs → Parses w bytes os ts qs os′ ts′ qs′ r
+parses-good w bytes n {os} {ts} {qs} {r = r} e l tree m eq =
+    let ws : List ℕ = numbers w bytes in
     let o : r .offsets + 2 ≡ 0 + r .offsets + 2 = omega arith in
     let q : length ws - 4 * r .queries ≡ n - 4 * r .queries = omega arith in
     record {
@@ -53,6 +53,6 @@ parses-good bytes n {os} {ts} {qs} {r = r} e l tree m eq =
     }
 
 -- the answer and the buffers are determined
-pub parses-one : {bytes os ts qs os₁ ts₁ qs₁ os₂ ts₂ qs₂ : List ℕ} {r₁ r₂ : Shape} → Parses bytes os ts qs os₁ ts₁ qs₁ r₁ → Parses bytes os ts qs os₂ ts₂ qs₂ r₂
+pub parses-one : {w : ℕ} {bytes os ts qs os₁ ts₁ qs₁ os₂ ts₂ qs₂ : List ℕ} {r₁ r₂ : Shape} → Parses w bytes os ts qs os₁ ts₁ qs₁ r₁ → Parses w bytes os ts qs os₂ ts₂ qs₂ r₂
     → (r₁ ≡ r₂) × (os₁ ≡ os₂) × (ts₁ ≡ ts₂) × (qs₁ ≡ qs₂)
 parses-one p q = (p .shape ∙ sym (q .shape), p .offsets ∙ sym (q .offsets), p .targets ∙ sym (q .targets), p .queries ∙ sym (q .queries))

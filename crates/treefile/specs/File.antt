@@ -16,7 +16,7 @@ maxFileTargets = 2_048
 unfoldable pub maxQueries : ℕ
 maxQueries = 64
 
--- the most numbers of a root section
+-- "another root count" than 1 is one too: the most numbers of a root section
 unfoldable pub maxRoots : ℕ
 maxRoots = 1
 

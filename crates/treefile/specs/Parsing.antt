@@ -5,7 +5,7 @@ use mathlib.Core.Bool.{true, false}
 use mathlib.Core.List.{List, [], _∷_, _++_}
 use lib.ListN.{length, drop}
 use Rattle.treefile.specs.declared.judge.Shape.{Shape}
-use Rattle.treefile.specs.File.{Query, Parsed, badFile, file, parseFile, maxOffsets, maxFileTargets, maxQueries}
+use Rattle.treefile.specs.File.{Query, Parsed, badFile, file, parseAs, maxOffsets, maxFileTargets, maxQueries}
 
 -- the counts of a well-formed file and its root
 abbrev pub shapeOf : Parsed → Shape
@@ -39,9 +39,9 @@ pub record Buffers (os ts qs : List ℕ) : Type 0 where
   pub targets : maxFileTargets ≤ length ts
   pub queries : 4 * maxQueries ≤ length qs
 
--- `parse` of the bytes answers r and leaves os′, ts′ and qs′ in the buffers; for a bad file they are unchanged
-pub record Parses (bytes os ts qs os′ ts′ qs′ : List ℕ) (r : Shape) : Type 0 where
-  pub shape : r ≡ shapeOf (parseFile bytes)
-  pub offsets : os′ ≡ front (offsetsOf (parseFile bytes)) os
-  pub targets : ts′ ≡ front (targetsOf (parseFile bytes)) ts
-  pub queries : qs′ ≡ front (queriesOf (parseFile bytes)) qs
+-- reading the bytes by numbers of so many bytes answers r and leaves os′, ts′ and qs′ in the buffers; for a bad file they are unchanged
+pub record Parses (width : ℕ) (bytes os ts qs os′ ts′ qs′ : List ℕ) (r : Shape) : Type 0 where
+  pub shape : r ≡ shapeOf (parseAs width bytes)
+  pub offsets : os′ ≡ front (offsetsOf (parseAs width bytes)) os
+  pub targets : ts′ ≡ front (targetsOf (parseAs width bytes)) ts
+  pub queries : qs′ ≡ front (queriesOf (parseAs width bytes)) qs

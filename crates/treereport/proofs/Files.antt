@@ -56,7 +56,7 @@ pub own-buffers : (os ts qs : List ℕ) → length os ≡ 1_025 → length ts �
 unfolding maxOffsets maxFileTargets maxQueries
 own-buffers os ts qs eo et eq = record { offsets = omega arith; targets = omega arith; queries = omega arith }
 
-module _ {bytes os ts qs os′ ts′ qs′ : List ℕ} {r : Shape} (p : Parses bytes os ts qs os′ ts′ qs′ r) (b : Buffers os ts qs) (good : r .good ≡ true) where
+module _ {bytes os ts qs os′ ts′ qs′ : List ℕ} {r : Shape} (p : Parses narrow bytes os ts qs os′ ts′ qs′ r) (b : Buffers os ts qs) (good : r .good ≡ true) where
   layout : Layout (numbers narrow bytes) (parseFile bytes) r
   layout = layout-of narrow bytes r (p .shape) good
 
