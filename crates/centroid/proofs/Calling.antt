@@ -5,12 +5,12 @@ use mathlib.Core.Path.{_≡_, refl, subst}
 use mathlib.Core.Logic.{_≢_}
 use mathlib.Core.List.{List}
 use Rattle.paths.proofs.Links.{tree-span}
-use Rattle.graph.specs.Codes.{done}
+use Rattle.answers.specs.Codes.{done}
 use Rattle.graph.specs.Judgement.{First}
 use Rattle.graph.specs.Lent.{vertices, listOf}
 use Rattle.graph.specs.Validation.{Sized, graphTests}
 use Rattle.graph.proofs.Frames.{only-trans, only-wider}
-use Rattle.graph.proofs.Limits.{vertices-small}
+use Rattle.answers.proofs.Bounds.{vertices-small}
 use Rattle.graph.proofs.Passed.{done-sound}
 use Rattle.visit.specs.Visit.{queueIn, upIn}
 use Rattle.visit.proofs.Positions.{places, parOf, depOf, visit-rooted, visit-held}

@@ -14,7 +14,7 @@ use Rattle.sums.proofs.Sums.{sum-none}
 use Rattle.paths.specs.Walk.{Stands}
 use Rattle.paths.specs.Rooted.{Spans}
 use Rattle.paths.specs.Route.{ptail}
-use Rattle.graph.specs.Limits.{noParent}
+use Rattle.answers.specs.Limits.{noParent}
 use Rattle.graph.specs.Lent.{listOf}
 use Rattle.graph.specs.Marks.{markOf}
 use Rattle.graph.specs.Work.{Only, Zeroed}

@@ -1,65 +1,41 @@
--- A read of the tables, test by test.
-use Prim.Native.Nat.{ℕ, suc, _≤_, _<_}
+-- A read of the tables: its tests passed, and the number that it answers.
+use Prim.Native.Nat.{ℕ, _<_}
 use native.Mathlib.Omega.{arith}
-use mathlib.Core.Path.{_≡_, refl, sym, ap, _∙_}
-use mathlib.Core.Logic.{_≢_}
+use mathlib.Core.Path.{_≡_}
 use mathlib.Core.Bool.{Bool, true, false}
-use mathlib.Core.List.{List}
-use lib.Dec.{eqb, leb}
+use mathlib.Core.List.{List, [], _∷_}
+use lib.Dec.{ltb}
 use lib.ListN.{length}
-use borrow.Author.Tests.{eq-eqb, ne-eqb, le-leb, lt-leb}
+use borrow.Author.Tests.{ltb-true}
 use Rattle.sums.specs.Sum.{at}
-use Rattle.graph.specs.Codes.{badSize, badVertex}
-use Rattle.graph.specs.Limits.{maxVertices}
-use Rattle.centroid.specs.declared.tables.Answer.{Answer}
-use Rattle.centroid.specs.declared.tables.Answer.the-variants.{At, Refused}
-use Rattle.centroid.specs.Reads.{unless, readOf}
-
--- a test that is not passed gives its refusal, one that is passed goes on
-refuses : (b : Bool) (r a : Answer) → b ≡ false → r ≡ unless b r a
-refuses b r a e = ap (λ (c : Bool). unless c r a) (sym e)
-
-goes-on : (b : Bool) (r : Answer) {a x : Answer} → b ≡ true → x ≡ a → x ≡ unless b r a
-goes-on b r {a} e q = q ∙ ap (λ (c : Bool). unless c r a) (sym e)
-
--- the limit as the code has it
-abbrev pub most : ℕ
-most = 32_768
+use Rattle.answers.specs.Choice.{pick}
+use Rattle.answers.specs.Asked.{sized?, vertices?, askedOf}
+use Rattle.answers.specs.declared.answer.Refusal.the-variants.{BadSize, BadVertex}
+use Rattle.answers.specs.declared.answer.Answer.the-variants.{Is, Refused}
+use Rattle.answers.specs.declared.asked.Verdict.the-variants.{Ready, Refused as Stopped}
+use Rattle.answers.proofs.Choices.{both-true}
+use Rattle.answers.proofs.Passed.{asked-ready, asked-answer}
+use Rattle.centroid.specs.Reads.{readOf}
 
 module _ (table other : List ℕ) (v : ℕ) where
-  -- the lengths differ
-  pub read-unequal : length table ≢ length other → Refused badSize ≡ readOf table other v
-  read-unequal ne = refuses (eqb (length table) (length other)) (Refused badSize) _ (ne-eqb (length table) (length other) ne)
+  module _ (ready : askedOf (length table) (length other ∷ []) (v ∷ []) Stopped Ready ≡ Ready) where
+    -- the tests were passed, so v is a vertex
+    pub read-below : v < length table
+    read-below =
+        let p = asked-ready (length table) (length other ∷ []) (v ∷ []) ready in
+        ltb-true v (length table) (both-true (ltb v (length table)) _ (p .1) .0)
 
-  module _ (same : length table ≡ length other) where
-    -- the tables are empty
-    pub read-empty : length table < 1 → Refused badSize ≡ readOf table other v
-    read-empty h =
-        goes-on (eqb (length table) (length other)) (Refused badSize) (eq-eqb (length table) (length other) same)
-        (refuses (leb 1 (length table)) (Refused badSize) _ (lt-leb 1 (length table) h))
+    -- and the read answers its entry
+    pub read-entry : Is (at table v) ≡ readOf table other v
+    read-entry =
+        let p = asked-ready (length table) (length other ∷ []) (v ∷ []) ready in
+        asked-answer (length table) (length other ∷ []) (v ∷ []) Refused (Is (at table v)) (p .0) (p .1)
 
-    module _ (some : 1 ≤ length table) where
-      two : {a x : Answer} → x ≡ a → x ≡ unless (eqb (length table) (length other)) (Refused badSize) (unless (leb 1 (length table)) (Refused badSize) a)
-      two q =
-          goes-on (eqb (length table) (length other)) (Refused badSize) (eq-eqb (length table) (length other) same)
-          (goes-on (leb 1 (length table)) (Refused badSize) (le-leb 1 (length table) some) q)
-
-      -- they are too long
-      pub read-long : most < length table → Refused badSize ≡ readOf table other v
-      unfolding maxVertices
-      read-long h = two (refuses (leb (length table) maxVertices) (Refused badSize) _ (lt-leb (length table) maxVertices h))
-
-      module _ (few : length table ≤ most) where
-        three : {a x : Answer} → x ≡ a
-            → x ≡ unless (eqb (length table) (length other)) (Refused badSize)
-            (unless (leb 1 (length table)) (Refused badSize) (unless (leb (length table) maxVertices) (Refused badSize) a))
-        unfolding maxVertices
-        three q = two (goes-on (leb (length table) maxVertices) (Refused badSize) (le-leb (length table) maxVertices few) q)
-
-        -- v is no vertex
-        pub read-vertex : length table ≤ v → Refused badVertex ≡ readOf table other v
-        read-vertex h = three (refuses (leb (suc v) (length table)) (Refused badVertex) _ (lt-leb (suc v) (length table) (omega arith)))
-
-        -- the entry
-        pub read-entry : v < length table → At (at table v) ≡ readOf table other v
-        read-entry h = three (goes-on (leb (suc v) (length table)) (Refused badVertex) (le-leb (suc v) (length table) h) refl)
+  -- a number that a read answers is the entry
+  pub read-is : {x : ℕ} → readOf table other v ≡ Is x → at table v ≡ x
+  read-is {x} e = told (sized? (length table) (length other ∷ [])) (vertices? (length table) (v ∷ [])) e
+    where
+      told : (a b : Bool) → pick a (pick b (Is (at table v)) (Refused BadVertex)) (Refused BadSize) ≡ Is x → at table v ≡ x
+      told true true q = cc
+      told true false q = absurd (let z : _≡_ {A = ℕ} 0 1 = cc in omega arith)
+      told false b q = absurd (let z : _≡_ {A = ℕ} 0 1 = cc in omega arith)

@@ -3,7 +3,7 @@ use Prim.Native.Nat.{ℕ, _+_, _≤_}
 use mathlib.Core.Path.{_≡_}
 use mathlib.Core.List.{List, [], _∷_, _++_}
 use lib.ListN.{length, drop}
-use Rattle.graph.specs.Codes.{noRoom}
+use Rattle.answers.specs.Codes.{noRoom}
 use Rattle.graph.specs.Judgement.{Test, test}
 use Rattle.graph.specs.Lent.{vertices, listOf}
 use Rattle.graph.specs.Validation.{Sized, Fits, roomOf, graphTests, opening, GraphCall}

@@ -7,7 +7,7 @@ use Rattle.sums.specs.Sum.{at}
 use Rattle.paths.specs.Walk.{In, Stands}
 use Rattle.paths.specs.Rooted.{Spans}
 use Rattle.paths.specs.Route.{ptail}
-use Rattle.graph.specs.Limits.{noParent}
+use Rattle.answers.specs.Limits.{noParent}
 use Rattle.centroid.specs.Components.{componentOf, CentroidFrom}
 
 -- where the search for c began: at 0, with no parent and level 0; or at a neighbour of c's parent, with a level one more than the parent's

@@ -11,7 +11,7 @@ use Rattle.sums.specs.Sum.{at, howMany}
 use Rattle.paths.specs.Walk.{In, Stands}
 use Rattle.paths.specs.Rooted.{Spans}
 use Rattle.paths.specs.Route.{ptail}
-use Rattle.graph.specs.Limits.{noParent}
+use Rattle.answers.specs.Limits.{noParent}
 use Rattle.graph.specs.Lent.{vertices, listOf}
 use Rattle.graph.specs.Validation.{graphTests}
 use Rattle.graph.specs.Steps.{Begun, GraphPart}

@@ -1,33 +1,18 @@
 // Plain reads of the decomposition's two tables.
-use graph::codes::BAD_SIZE;
-use graph::codes::BAD_VERTEX;
-use graph::codes::MAX_VERTICES;
+use answers::answer::Answer;
+use answers::asked::Verdict;
+use answers::asked::asked;
 ghost use mathlib.Core.Path.{_≡_};
 ghost use Rattle.centroid.specs.Reads.{readOf};
 
-// What a read answers: the entry, or the code of its refusal.
-pub enum Answer {
-    At(u32),
-    Refused(u32),
-}
-
-// The entry of v in one of the two tables: refused BAD_SIZE if they are not of one length from 1 to the limit, then BAD_VERTEX.
+// The entry of v in one of the two tables, after the tests before every query.
 fn read(table: &[u32], other: &[u32], v: usize) -> Answer
     ensures { λ r. ⌜ r ≡ readOf (now (table .entry)) (now (other .entry)) v ⌝ }
 {
-    if table.len() != other.len() {
-        return Answer::Refused(BAD_SIZE);
+    if let Verdict::Refused(refusal) = asked(table.len(), &[other.len()], &[v]) {
+        return Answer::Refused(refusal);
     }
-    if table.len() < 1 {
-        return Answer::Refused(BAD_SIZE);
-    }
-    if MAX_VERTICES < table.len() {
-        return Answer::Refused(BAD_SIZE);
-    }
-    if table.len() <= v {
-        return Answer::Refused(BAD_VERTEX);
-    }
-    Answer::At(table[v])
+    Answer::Is(table[v] as usize)
 }
 
 // The centroid above v, NO_PARENT for the first one.

@@ -7,7 +7,7 @@ use mathlib.Core.Logic.{by-cases}
 use mathlib.Core.List.{List, [], _∷_, _++_}
 use lib.ListN.{length, drop}
 use Rattle.sums.specs.Sum.{at, sum}
-use Rattle.graph.specs.Codes.{done, noRoom}
+use Rattle.answers.specs.Codes.{done, noRoom}
 use Rattle.graph.specs.Judgement.{test, First}
 use Rattle.graph.specs.Lent.{vertices, listOf}
 use Rattle.graph.specs.Validation.{graphTests}

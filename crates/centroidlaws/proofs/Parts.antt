@@ -13,7 +13,7 @@ use Rattle.paths.specs.Walk.{Stands}
 use Rattle.paths.specs.Rooted.{Spans}
 use Rattle.paths.specs.Route.{ptail}
 use Rattle.paths.proofs.Steps.{on-below}
-use Rattle.graph.specs.Limits.{maxVertices, noParent}
+use Rattle.answers.specs.Limits.{noParent}
 use Rattle.centroid.specs.Components.{every, componentOf, inPart}
 use Rattle.centroid.specs.Decomposition.{Began, first, next, DecompositionOf}
 use Rattle.centroidlaws.proofs.Every.{both-parts, both-passed, every-entry, each-every, same-test}
@@ -28,11 +28,6 @@ pub record PartOfParent (n : ℕ) (way : ℕ → ℕ → List ℕ) (up level : �
   pub one-up : level c ≡ level (up c) + 1
   pub inside : componentOf way level (up c) c ≡ true
   pub part : (x : ℕ) → x < n → componentOf way level c x ≡ inPart way (componentOf way level (up c)) (up c) c x
-
--- no vertex of a tree within the limits has the number that stands for no parent
-pub no-parent-above : maxVertices ≤ noParent
-unfolding maxVertices noParent
-no-parent-above = omega arith
 
 module _ {n : ℕ} {A : ℕ → List ℕ} {par dep up level : ℕ → ℕ} (D : Decomposed n A par dep up level) where
   -- two vertices of one level in one component are equal

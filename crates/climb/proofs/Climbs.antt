@@ -7,10 +7,10 @@ use mathlib.Core.List.{List}
 use lib.Dec.{eqb, ltb}
 use borrow.Author.Tests.{lt-ltb, le-ltb, le-leb, lt-leb, eq-eqb, ne-eqb, ltb-true, eqb-false}
 use Rattle.sums.specs.Sum.{at}
-use Rattle.graph.specs.Limits.{noParent}
+use Rattle.answers.specs.Limits.{noParent}
 use Rattle.numbering.specs.Log.{log2}
 use Rattle.tables.specs.Tables.{Six}
-use Rattle.climb.specs.Choice.{pick}
+use Rattle.answers.specs.Choice.{pick}
 use Rattle.climb.specs.Sound.{Stood, On, Unsound, standOn}
 use Rattle.climb.specs.Climbing.{leaveChain, climbing, climbTo, climbStart, uMoved, vMoved}
 use Rattle.climb.specs.Inner.{Placed}

@@ -8,11 +8,11 @@ use mathlib.Core.List.{List}
 use lib.ListN.{length}
 use borrow.Author.Tests.{le-leb, lt-leb}
 use Rattle.sums.specs.Sum.{at}
-use Rattle.graph.specs.Limits.{noParent}
+use Rattle.answers.specs.Limits.{noParent}
 use Rattle.numbering.specs.Log.{log2}
 use Rattle.numbering.proofs.Logs.{log2-word}
 use Rattle.tables.specs.Tables.{Six, six}
-use Rattle.climb.specs.Choice.{pick, both}
+use Rattle.answers.specs.Choice.{pick, both}
 use Rattle.climb.specs.Sound.{Stood, On, Unsound, standOn}
 use Rattle.climb.specs.Climbing.{leaveChain, climbing, climbTo, climbStart, uMoved, vMoved, ancestorOf}
 use Rattle.climb.specs.Inner.{hangs?, Seat, ClimbsFrom, ClimbedTo, Left}
@@ -21,7 +21,7 @@ use Rattle.climb.specs.declared.places.Climb.{Climb}
 use Rattle.climb.specs.declared.places.Reached.{Reached}
 use Rattle.climb.specs.declared.places.Climbed.{Climbed}
 use Rattle.climb.specs.declared.places.Climbed.the-variants.{Met, Lost}
-use Rattle.climb.proofs.Choices.{pick-true, pick-false}
+use Rattle.answers.proofs.Choices.{pick-true, pick-false}
 use Rattle.climb.proofs.Reaching.{seat-stand, left-fewer, left-seat, left-lower, left-stand}
 use Rattle.climb.proofs.Climbs.{climb-met, climb-by, climb-by-u, climb-by-v, climb-from, climb-off-u, climb-off-v}
 

@@ -6,7 +6,7 @@ use mathlib.Core.Bool.{true, false}
 use mathlib.Core.List.{List}
 use lib.ListN.{length}
 use Rattle.sums.specs.Sum.{at}
-use Rattle.graph.specs.Limits.{noParent}
+use Rattle.answers.specs.Limits.{noParent}
 use Rattle.tables.specs.Tables.{six}
 use Rattle.climb.specs.Climbing.{climbTo, ancestorOf}
 use Rattle.climb.specs.Inner.{Even, hangs?, settled, ReachedOn, ClimbsFrom, ClimbedTo}
@@ -15,7 +15,7 @@ use Rattle.climb.specs.declared.places.Climb.{Climb}
 use Rattle.climb.specs.declared.places.Reached.{Reached}
 use Rattle.climb.specs.declared.places.Climbed.{Climbed}
 use Rattle.climb.specs.declared.places.Climbed.the-variants.{Met, Lost}
-use Rattle.climb.proofs.Choices.{pick-true, pick-false}
+use Rattle.answers.proofs.Choices.{pick-true, pick-false}
 use Rattle.climb.proofs.Reaching.{reached-vertex, reached-seat}
 
 -- a bound on the ancestor's depth holds of the place that was found

@@ -1,4 +1,3 @@
-pub mod Choices
 pub mod Soundness
 pub mod Reaching
 pub mod Climbs

@@ -10,16 +10,16 @@ use lib.ListN.{length}
 use borrow.Author.Tests.{lt-ltb, le-ltb, le-leb, lt-leb, eq-eqb, ne-eqb, ltb-true}
 use Rattle.sums.specs.Sum.{at}
 use Rattle.sums.proofs.Sums.{equal-or-not}
-use Rattle.graph.specs.Limits.{noParent}
+use Rattle.answers.specs.Limits.{noParent}
 use Rattle.numbering.specs.Log.{log2}
 use Rattle.tables.specs.Tables.{Six, six}
-use Rattle.climb.specs.Choice.{pick, both}
+use Rattle.answers.specs.Choice.{pick, both}
 use Rattle.climb.specs.Sound.{sound?, Stood, On, Unsound, standOn, placeOf}
 use Rattle.climb.specs.Climbing.{leaveChain}
 use Rattle.climb.specs.Inner.{four, chained?, seated?, hangsFrom?, hangs?, above?, Reach, Stands, ReadsHead, ReachedOn, Rests, ReachedAbove, StoodOn, Seat, Leaves, Left}
 use Rattle.climb.specs.declared.places.Place.{Place}
 use Rattle.climb.specs.declared.places.Reached.{Reached}
-use Rattle.climb.proofs.Choices.{pick-same, pick-both, both-true}
+use Rattle.answers.proofs.Choices.{pick-same, pick-both, both-true}
 use Rattle.climb.proofs.Climbs.{leave-parentless, leave-worn, leave-stands}
 use Rattle.climb.proofs.Soundness.{Seated, stand-split, sound-split, seated-place, hangs-from, hangs-up}
 

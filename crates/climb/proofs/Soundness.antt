@@ -7,13 +7,13 @@ use mathlib.Core.List.{List}
 use lib.Dec.{eqb, leb, ltb}
 use borrow.Author.Tests.{ltb-true, leb-true, eqb-true, ne-eqb}
 use Rattle.sums.specs.Sum.{at}
-use Rattle.graph.specs.Limits.{noParent}
+use Rattle.answers.specs.Limits.{noParent}
 use Rattle.tables.specs.Tables.{Six}
-use Rattle.climb.specs.Choice.{pick, both}
+use Rattle.answers.specs.Choice.{pick, both}
 use Rattle.climb.specs.Sound.{depthIn, headIn, idIn, sound?, On, Unsound, standOn, placeOf}
 use Rattle.climb.specs.Inner.{hangsFrom?, hangs?, seated?, Placed}
 use Rattle.climb.specs.declared.places.Place.{Place}
-use Rattle.climb.proofs.Choices.{pick-both, both-last, both-true}
+use Rattle.answers.proofs.Choices.{pick-both, both-last, both-true}
 
 -- to be sound is to be seated under a head that hangs
 pub sound-split : (n : ℕ) (t : Six) (x : ℕ) → sound? n t x ≡ both (seated? n t x) (hangs? n (t .depth) (t .id) (placeOf t x))

@@ -2,10 +2,10 @@
 use Prim.Native.Nat.{ℕ, zero, suc, _+_, _*_}
 use mathlib.Core.Bool.{true, false}
 use lib.Dec.{eqb, leb, ltb}
-use Rattle.graph.specs.Limits.{noParent}
+use Rattle.answers.specs.Limits.{noParent}
 use Rattle.numbering.specs.Log.{log2}
 use Rattle.tables.specs.Tables.{Six}
-use Rattle.climb.specs.Choice.{pick}
+use Rattle.answers.specs.Choice.{pick}
 use Rattle.climb.specs.Sound.{Stood, On, Unsound, standOn}
 use Rattle.climb.specs.declared.places.Place.{Place}
 use Rattle.climb.specs.declared.places.Climb.{Climb}

@@ -7,10 +7,10 @@ use mathlib.Core.List.{List, []}
 use lib.Dec.{eqb, leb, ltb}
 use lib.ListN.{length}
 use Rattle.sums.specs.Sum.{at}
-use Rattle.graph.specs.Limits.{noParent}
+use Rattle.answers.specs.Limits.{noParent}
 use Rattle.numbering.specs.Log.{log2}
 use Rattle.tables.specs.Tables.{Six, six}
-use Rattle.climb.specs.Choice.{pick, both}
+use Rattle.answers.specs.Choice.{pick, both}
 use Rattle.climb.specs.Sound.{depthIn, headIn, idIn, sound?, placeOf}
 use Rattle.climb.specs.Climbing.{climbTo, ancestorOf}
 use Rattle.climb.specs.declared.places.Place.{Place}

@@ -1,5 +1,3 @@
-pub mod Choice
-pub mod Answers
 pub mod Asked
 pub mod Sound
 pub mod Climbing

@@ -4,9 +4,9 @@ use Prim.Native.Nat.{ℕ, _+_, _-_}
 use mathlib.Core.Bool.{Bool}
 use lib.Dec.{eqb, leb, ltb}
 use Rattle.sums.specs.Sum.{at}
-use Rattle.graph.specs.Limits.{noParent}
+use Rattle.answers.specs.Limits.{noParent}
 use Rattle.tables.specs.Tables.{Six}
-use Rattle.climb.specs.Choice.{pick, both}
+use Rattle.answers.specs.Choice.{pick, both}
 use Rattle.climb.specs.declared.places.Place.{Place}
 
 -- the entries of a vertex

@@ -2,7 +2,7 @@
 // chain reads the entries of the head's parent, and then tests it with them, so that no entry is read twice.
 use crate::places::Place;
 use crate::places::Reached;
-use graph::codes::NO_PARENT;
+use answers::limits::NO_PARENT;
 ghost use mathlib.Core.Path.{_≡_};
 ghost use mathlib.Core.Bool.{false};
 ghost use Rattle.climb.specs.Inner.{hangs?, Hangs, Stands, ReadsHead, Rests, ReachedOn, ReachedAbove, StoodOn};

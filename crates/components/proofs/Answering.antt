@@ -8,9 +8,9 @@ use mathlib.Core.List.{List, [], _∷_}
 use lib.ListN.{length}
 use Rattle.sums.specs.Sum.{at}
 use Rattle.sums.proofs.Sums.{sum-mono, sum-const}
-use Rattle.graph.specs.Codes.{done, noRoom}
+use Rattle.answers.specs.Codes.{done, noRoom}
 use Rattle.graph.specs.Judgement.{test, First}
-use Rattle.graph.specs.Limits.{maxVertices}
+use Rattle.answers.specs.Limits.{maxVertices}
 use Rattle.graph.specs.Lent.{vertices}
 use Rattle.graph.specs.Validation.{roomOf, graphTests}
 use Rattle.graph.specs.Steps.{Begun}

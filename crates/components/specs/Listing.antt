@@ -8,7 +8,7 @@ use Rattle.sums.specs.Sum.{at, howMany}
 use Rattle.paths.specs.Walk.{Stands}
 use Rattle.paths.specs.Rooted.{Spans}
 use Rattle.paths.specs.Route.{ptail}
-use Rattle.graph.specs.Codes.{noRoom}
+use Rattle.answers.specs.Codes.{noRoom}
 use Rattle.graph.specs.Judgement.{test}
 use Rattle.graph.specs.Lent.{vertices, listOf}
 use Rattle.graph.specs.Steps.{GraphPart}

@@ -2,10 +2,10 @@
 use crate::levels::find_levels;
 use crate::levels::total_room;
 use crate::listing::list_all;
+use answers::codes::DONE;
+use answers::codes::NO_ROOM;
 use graph::call::begin;
 use graph::call::finish;
-use graph::codes::DONE;
-use graph::codes::NO_ROOM;
 use validate::judge;
 ghost use Prim.Native.Nat.{_≤_};
 ghost use lib.ListN.{length};

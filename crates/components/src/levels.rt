@@ -1,5 +1,6 @@
 // The levels of the decomposition, in lent work: two parts of one lent slice cannot be lent at once, so the levels by vertex stand behind the
 // regions of the search.
+use answers::limits::NO_PARENT;
 use centroid::decompose::add_starts;
 use centroid::regions::LEVEL_OF;
 use centroid::regions::LEVELS;
@@ -8,7 +9,6 @@ use centroid::regions::QUEUE;
 use centroid::regions::REMOVED;
 use centroid::regions::STARTS;
 use centroid::search::find_centroid;
-use graph::codes::NO_PARENT;
 use graph::marks::mark;
 use graph::work::zero;
 ghost use mathlib.Core.Path.{_≡_};

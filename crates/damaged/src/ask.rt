@@ -1,8 +1,7 @@
 // The queries, by number, in the order of how many numbers each takes:
 // root, range, depth, id, distance, ancestor, size, lca, jump.
-use climb::answers::Answer;
-use climb::answers::Interval;
-use climb::answers::Refusal;
+use answers::answer::Answer;
+use answers::answer::Interval;
 use libc::STDOUT_FILENO;
 use queries::ancestors::kth_ancestor;
 use queries::between::distance;
@@ -14,41 +13,26 @@ use queries::reads::vertex_id;
 use queries::sizes::subtree_range;
 use queries::sizes::subtree_size;
 
-// Prints the code of a refusal.
-fn print_refusal(refusal: Refusal) {
-    let code = match refusal {
-        Refusal::BadSize => 1,
-        Refusal::NoRoom => 2,
-        Refusal::BadVertex => 4,
-        Refusal::BadTable => 9,
-        Refusal::TooFar => 10,
-    };
-    io::print_decimal(STDOUT_FILENO, code);
-}
-
-// Prints the code of an answer, a space and the number.
+// Prints a space and a number.
 fn print_value(x: usize) {
-    io::write_all(STDOUT_FILENO, b"0 ");
+    io::write_all(STDOUT_FILENO, b" ");
     io::print_decimal(STDOUT_FILENO, x as u64);
 }
 
-fn print_range(start: usize, end: usize) {
-    print_value(start);
-    io::write_all(STDOUT_FILENO, b" ");
-    io::print_decimal(STDOUT_FILENO, end as u64);
-}
-
+// Prints the code of an answer, and its number where it has one.
 fn print(answer: Answer) {
-    match answer {
-        Answer::Is(x) => print_value(x),
-        Answer::Refused(refusal) => print_refusal(refusal),
+    io::print_decimal(STDOUT_FILENO, answer.code() as u64);
+    if let Answer::Is(x) = answer {
+        print_value(x);
     }
 }
 
+// Prints the code of an interval, and its ends where it has them.
 fn print_interval(interval: Interval) {
-    match interval {
-        Interval::Between(start, end) => print_range(start, end),
-        Interval::Refused(refusal) => print_refusal(refusal),
+    io::print_decimal(STDOUT_FILENO, interval.code() as u64);
+    if let Interval::Between(start, end) = interval {
+        print_value(start);
+        print_value(end);
     }
 }
 

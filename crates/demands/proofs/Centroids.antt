@@ -12,15 +12,16 @@ use Rattle.paths.specs.Walk.{Stands}
 use Rattle.paths.specs.Rooted.{Spans}
 use Rattle.paths.specs.Route.{ptail}
 use Rattle.paths.proofs.Unique.{path-simple}
-use Rattle.graph.specs.Codes.{done}
-use Rattle.graph.specs.Limits.{maxVertices}
+use Rattle.answers.specs.Codes.{done}
+use Rattle.answers.specs.Limits.{maxVertices}
 use Rattle.graph.specs.Lent.{vertices, listOf}
 use Rattle.centroid.specs.Decomposition.{DecompositionOf}
 use Rattle.centroid.specs.Lists.{branchOf, joined, ListsOf}
 use Rattle.centroid.specs.Calls.{decomposing, Decomposes, listing, Front, Lists}
 use Rattle.centroidlaws.proofs.Before.{Listed}
 use Rattle.graph.proofs.Passed.{all-passed}
-use Rattle.centroidlaws.proofs.Parts.{no-parent-above, parent-part}
+use Rattle.answers.proofs.Bounds.{vertices-parents}
+use Rattle.centroidlaws.proofs.Parts.{parent-part}
 use Rattle.centroidlaws.proofs.Halving.{level-bound}
 use Rattle.centroidlaws.proofs.SameLists.{joined-map, list-holds, lists-total}
 use Rattle.centroidlaws.proofs.Determined.{decomposing-passed, listing-passed}
@@ -36,7 +37,7 @@ centroids-of {par = par} {dep = dep} few S D = record {
   way = ptail par dep;
   simple = λ hu hv. path-simple S hu hv;
   centroid = λ {c} hc. D .centroids par dep S c hc;
-  part = λ hc hp x hx. parent-part (le-trans few no-parent-above) S D hc hp .part x hx;
+  part = λ hc hp x hx. parent-part (le-trans few vertices-parents) S D hc hp .part x hx;
   level-bound = λ hc. level-bound S D hc .1;
 }
 

@@ -10,24 +10,24 @@ use lib.ListN.{length, drop, List·getD-append}
 use lib.Seq.{drop-at}
 use borrow.Author.Tests.{le-leb, lt-leb}
 use Rattle.sums.specs.Sum.{at}
-use Rattle.graph.specs.Codes.{done, noRoom}
+use Rattle.answers.specs.Codes.{done, noRoom}
 use Rattle.graph.specs.Lent.{vertices}
 use Rattle.validate.proofs.Meaning.{validates-one}
 use Rattle.hld.proofs.Meaning.{builds-one}
-use Rattle.climb.specs.Choice.{pick}
-use Rattle.climb.specs.Answers.{answerCode, answerValues, intervalCode, intervalValues}
-use Rattle.climb.specs.declared.answers.Refusal.the-variants.{NoRoom}
-use Rattle.climb.specs.declared.answers.Answer.{Answer}
-use Rattle.climb.specs.declared.answers.Answer.the-variants.{Is, Refused}
-use Rattle.climb.specs.declared.answers.Interval.{Interval}
-use Rattle.climb.specs.declared.answers.Interval.the-variants.{Between, Refused as NoInterval}
-use Rattle.climb.proofs.Choices.{pick-true, pick-false}
-use Rattle.ranges.specs.Calls.{Answered, refused, listed, flat, listedCode, listedValues}
+use Rattle.answers.specs.Choice.{pick}
+use Rattle.answers.specs.Answers.{answerCode, answerValues, intervalCode, intervalValues, listedCode, listedValues}
+use Rattle.answers.specs.declared.answer.Refusal.the-variants.{NoRoom}
+use Rattle.answers.specs.declared.answer.Answer.{Answer}
+use Rattle.answers.specs.declared.answer.Answer.the-variants.{Is, TooFar, Refused}
+use Rattle.answers.specs.declared.answer.Interval.{Interval}
+use Rattle.answers.specs.declared.answer.Interval.the-variants.{Between, Refused as NoInterval}
+use Rattle.answers.proofs.Choices.{pick-true, pick-false}
+use Rattle.ranges.specs.Calls.{Answered, refused, listed, flat}
 use Rattle.ranges.specs.Inner.{ListedAs}
 use Rattle.ranges.proofs.Slots.{flat-length}
 use Rattle.ranges.specs.declared.kinds.PathRange.{PathRange}
-use Rattle.ranges.specs.declared.kinds.Listed.{Listed}
-use Rattle.ranges.specs.declared.kinds.Listed.the-variants.{Count, Refused as NotListed}
+use Rattle.answers.specs.declared.answer.Listed.{Listed}
+use Rattle.answers.specs.declared.answer.Listed.the-variants.{Count, Refused as NotListed}
 use Rattle.records.specs.Records.{RecordedAs}
 use Rattle.records.proofs.Reading.{records-one}
 use Rattle.centroid.specs.Calls.{Front, Lists}
@@ -38,6 +38,7 @@ use Rattle.demands.specs.First.{Refusals, NothingWritten, PastCount, Wor
 -- a refused query answers no number
 number-free : (a : Answer) → answerCode a ≢ done → answerValues a ≡ []
 number-free (Is x) h = absurd (h refl)
+number-free TooFar h = refl
 number-free (Refused r) h = refl
 
 -- nor an interval

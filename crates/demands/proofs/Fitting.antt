@@ -9,7 +9,7 @@ use lib.Seq.{getD-at}
 use Rattle.sums.specs.Sum.{at, sum}
 use Rattle.sums.proofs.Sums.{equal-or-not}
 use Rattle.paths.specs.Route.{ptail}
-use Rattle.graph.specs.Codes.{done}
+use Rattle.answers.specs.Codes.{done}
 use Rattle.graph.specs.Lent.{vertices}
 use Rattle.centroid.specs.Components.{componentOf}
 use Rattle.centroid.specs.Decomposition.{DecompositionOf}

@@ -20,7 +20,7 @@ use Rattle.numbering.proofs.Subtrees.{anc-interval}
 use Rattle.numbering.proofs.Sizes.{size-count, id-order}
 use Rattle.tables.specs.Tables.{Six, kidsByRuleOne}
 use Rattle.queries.specs.Queries.{lca}
-use Rattle.climb.specs.declared.answers.Answer.the-variants.{Is}
+use Rattle.answers.specs.declared.answer.Answer.the-variants.{Is}
 use Rattle.pathlaws.specs.Given.{Given}
 use Rattle.pathlaws.proofs.SingleEntries.{vertex-count, root-answer, depth-answer, id-answer, range-answer}
 use Rattle.pathlaws.proofs.SimplePaths.{distance-simple, jump-simple, jump-simple-too-far, kth-simple, kth-simple-too-far, subtree-size-simple}
@@ -29,7 +29,7 @@ use Rattle.pathlaws.proofs.ReRooted.{lca-re-rooted}
 use Rattle.readings.proofs.SimpleReadings.{edges-simple, both-simple, simple-last}
 use Rattle.ranges.specs.declared.kinds.Kind.the-variants.{Edges, Both}
 use Rattle.paths.proofs.Hung.{tree-hangs}
-use Rattle.centroidlaws.proofs.Parts.{no-parent-above}
+use Rattle.answers.proofs.Bounds.{vertices-parents}
 use Rattle.demands.specs.Numbers.{OnPath, Entries, Answers}
 use Rattle.demands.proofs.Found.{ranges-of, ranges-there}
 
@@ -60,7 +60,7 @@ module _ {n root : ℕ} {A : ℕ → List ℕ} {t : Six} (G : Given n A root t (
       let o = ap (at (t .parent)) (G .tables .spans .rooted .one-root v hv z) in
       let q = G .tables .no-parent in
       let m = G .limit in
-      let a = no-parent-above in
+      let a = vertices-parents in
       absurd (omega arith))
       (λ d. omega arith)
 

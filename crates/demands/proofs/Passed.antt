@@ -4,7 +4,7 @@ use native.Mathlib.Omega.{arith}
 use mathlib.Core.Path.{refl}
 use mathlib.Core.List.{List}
 use lib.ListN.{length}
-use Rattle.graph.specs.Codes.{done}
+use Rattle.answers.specs.Codes.{done}
 use Rattle.graph.specs.Lent.{vertices, listOf}
 use Rattle.graph.proofs.Passed.{all-passed}
 use Rattle.tables.specs.Tables.{Six, kidsByRuleOne}

@@ -5,7 +5,7 @@ use mathlib.Core.Path.{refl}
 use mathlib.Core.List.{List, [], _∷_}
 use lib.ListN.{length}
 use Rattle.paths.specs.Tree.{Tree}
-use Rattle.graph.specs.Codes.{done, noRoom}
+use Rattle.answers.specs.Codes.{done, noRoom}
 use Rattle.graph.specs.Judgement.{test}
 use Rattle.graph.specs.Lent.{vertices, listOf}
 use Rattle.graph.specs.Validation.{Sized, roomOf, validation, graphTests}

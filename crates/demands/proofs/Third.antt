@@ -7,14 +7,14 @@ use lib.ListN.{length, drop}
 use borrow.Author.Tests.{le-leb}
 use Rattle.paths.proofs.Listed.{in-below}
 use Rattle.paths.proofs.Unique.{path-simple}
-use Rattle.graph.specs.Limits.{maxVertices}
+use Rattle.answers.specs.Limits.{maxVertices}
 use Rattle.numbering.specs.Log.{log2}
 use Rattle.tables.specs.Tables.{Six}
 use Rattle.queries.specs.Queries.{lca}
-use Rattle.climb.specs.declared.answers.Answer.{Answer}
-use Rattle.climb.specs.declared.answers.Answer.the-variants.{Is}
-use Rattle.climb.specs.declared.answers.Refusal.the-variants.{NoRoom}
-use Rattle.climb.proofs.Choices.{pick-true}
+use Rattle.answers.specs.declared.answer.Answer.{Answer}
+use Rattle.answers.specs.declared.answer.Answer.the-variants.{Is}
+use Rattle.answers.specs.declared.answer.Refusal.the-variants.{NoRoom}
+use Rattle.answers.proofs.Choices.{pick-true}
 use Rattle.pathlaws.specs.Given.{Given}
 use Rattle.pathlaws.proofs.Lca.{lca-common, lca-any-order}
 use Rattle.pathlaws.proofs.SimplePaths.{lca-simple}
@@ -22,8 +22,8 @@ use Rattle.ranges.specs.Calls.{Answered, rangesOf, rangeRoom, flat}
 use Rattle.ranges.specs.Inner.{ListedAs}
 use Rattle.ranges.specs.declared.kinds.PathRange.{PathRange}
 use Rattle.ranges.specs.declared.kinds.Kind.the-variants.{Vertices}
-use Rattle.ranges.specs.declared.kinds.Listed.{Listed}
-use Rattle.ranges.specs.declared.kinds.Listed.the-variants.{Count, Refused}
+use Rattle.answers.specs.declared.answer.Listed.{Listed}
+use Rattle.answers.specs.declared.answer.Listed.the-variants.{Count, Refused}
 use Rattle.readings.proofs.Bounds.{ranges-room}
 use Rattle.readings.proofs.PathReadings.{ranges-turn}
 use Rattle.readings.proofs.SimpleReadings.{vertices-simple, ranges-simple-cut, simple-last}

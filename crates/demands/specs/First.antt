@@ -10,23 +10,24 @@ use mathlib.Core.Bool.{true, false}
 use mathlib.Core.List.{List, []}
 use lib.ListN.{length, drop}
 use Rattle.sums.specs.Sum.{at}
-use Rattle.graph.specs.Codes.{done, noRoom}
+use Rattle.answers.specs.Codes.{done, noRoom}
 use Rattle.graph.specs.Judgement.{Test, First}
 use Rattle.graph.specs.Lent.{vertices}
 use Rattle.graph.specs.Validation.{roomOf, opening, Leaves, GraphCall, validation, Validates}
 use Rattle.tables.specs.Tables.{Six}
 use Rattle.hld.specs.Build.{building, Builds}
-use Rattle.climb.specs.Asked.{sizeOf, tables?, vertices?, asked}
-use Rattle.climb.specs.Answers.{answerCode, answerValues, intervalCode, intervalValues}
-use Rattle.climb.specs.declared.answers.Refusal.{Refusal}
-use Rattle.climb.specs.declared.answers.Refusal.the-variants.{BadSize, BadVertex}
-use Rattle.climb.specs.declared.answers.Answer.{Answer}
-use Rattle.climb.specs.declared.answers.Interval.{Interval}
-use Rattle.ranges.specs.Calls.{Answered, listed, listedCode, listedValues}
+use Rattle.answers.specs.Asked.{vertices?}
+use Rattle.climb.specs.Asked.{sizeOf, tables?, asked}
+use Rattle.answers.specs.Answers.{answerCode, answerValues, intervalCode, intervalValues, listedCode, listedValues}
+use Rattle.answers.specs.declared.answer.Refusal.{Refusal}
+use Rattle.answers.specs.declared.answer.Refusal.the-variants.{BadSize, BadVertex}
+use Rattle.answers.specs.declared.answer.Answer.{Answer}
+use Rattle.answers.specs.declared.answer.Interval.{Interval}
+use Rattle.ranges.specs.Calls.{Answered, listed}
 use Rattle.ranges.specs.Inner.{ListedAs}
 use Rattle.ranges.specs.declared.kinds.PathRange.{PathRange}
-use Rattle.ranges.specs.declared.kinds.Listed.{Listed}
-use Rattle.ranges.specs.declared.kinds.Listed.the-variants.{Count}
+use Rattle.answers.specs.declared.answer.Listed.{Listed}
+use Rattle.answers.specs.declared.answer.Listed.the-variants.{Count}
 use Rattle.records.specs.Records.{RecordedAs}
 use Rattle.centroid.specs.Calls.{decomposing, Decomposes, listing, Lists}
 

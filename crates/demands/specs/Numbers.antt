@@ -7,13 +7,12 @@ use mathlib.Core.List.{List, _∷_}
 use lib.ListN.{length}
 use Rattle.sums.specs.Sum.{at, howMany}
 use Rattle.paths.specs.Walk.{In, NoDup, Stands, Simple}
-use Rattle.graph.specs.Limits.{noParent}
+use Rattle.answers.specs.Limits.{noParent}
 use Rattle.numbering.specs.Numbering.{Numbered, Chained}
 use Rattle.tables.specs.Tables.{Six, Long, kidsByRuleOne}
 use Rattle.queries.specs.Queries.{vertexCount, rootOf, depthOf, vertexId, subtreeRange, kthAncestor, subtreeSize, distance as distanceOf, lca as lcaOf, jump as jumpOf}
-use Rattle.climb.specs.declared.answers.Refusal.the-variants.{TooFar}
-use Rattle.climb.specs.declared.answers.Answer.the-variants.{Is, Refused}
-use Rattle.climb.specs.declared.answers.Interval.the-variants.{Between}
+use Rattle.answers.specs.declared.answer.Answer.the-variants.{Is, TooFar, Refused}
+use Rattle.answers.specs.declared.answer.Interval.the-variants.{Between}
 use Rattle.pathlaws.specs.NeverNine.{NeverNine}
 use Rattle.ranges.specs.Calls.{listed, rangesOf}
 use Rattle.ranges.specs.Readings.{reading, edgeNumbers, bothNumbers}
@@ -66,8 +65,8 @@ pub record Answers (n : ℕ) (A : ℕ → List ℕ) (root : ℕ) (t : Six) : Typ
   pub kth-ancestor : (k : ℕ) {v : ℕ} {P : List ℕ} → Simple n (Stands A) v root P → k ≤ length P → kthAncestor t v k ≡ Is (at (v ∷ P) k)
   pub jump : (k : ℕ) {u v : ℕ} {P : List ℕ} → Simple n (Stands A) u v P → k ≤ length P → jumpOf t u v k ≡ Is (at (u ∷ P) k)
   -- "`kth_ancestor` is refused exactly if no k-th ancestor exists; `jump` exactly if k exceeds the distance."
-  pub no-ancestor : (k : ℕ) {v : ℕ} {P : List ℕ} → Simple n (Stands A) v root P → length P < k → kthAncestor t v k ≡ Refused TooFar
-  pub no-jump : (k : ℕ) {u v : ℕ} {P : List ℕ} → Simple n (Stands A) u v P → length P < k → jumpOf t u v k ≡ Refused TooFar
+  pub no-ancestor : (k : ℕ) {v : ℕ} {P : List ℕ} → Simple n (Stands A) v root P → length P < k → kthAncestor t v k ≡ TooFar
+  pub no-jump : (k : ℕ) {u v : ℕ} {P : List ℕ} → Simple n (Stands A) u v P → length P < k → jumpOf t u v k ≡ TooFar
   -- "`lca(r,u,v)` and `subtree_size(r,v)`: as if r were the root."
   pub lca :
       {r u v : ℕ} (m : ℕ) → OnPath n A u r m → OnPath n A v r m

@@ -8,7 +8,7 @@ use mathlib.Core.List.{List}
 use lib.ListN.{length}
 use Rattle.sums.specs.Sum.{at, sum}
 use Rattle.paths.specs.Tree.{Tree}
-use Rattle.graph.specs.Codes.{done}
+use Rattle.answers.specs.Codes.{done}
 use Rattle.graph.specs.Lent.{vertices, listOf, Offsets, Targets}
 use Rattle.graph.specs.Validation.{Sized, roomOf, Validates}
 use Rattle.tables.specs.Tables.{Six, Long}

@@ -8,20 +8,20 @@ use mathlib.Core.List.{List, _∷_, _++_, map, reverse}
 use lib.ListN.{length, drop}
 use Rattle.sums.specs.Sum.{at}
 use Rattle.paths.specs.Walk.{Stands, Simple}
-use Rattle.graph.specs.Codes.{done}
+use Rattle.answers.specs.Codes.{done}
 use Rattle.graph.specs.Lent.{vertices, listOf}
 use Rattle.numbering.specs.Log.{log2}
 use Rattle.tables.specs.Tables.{Six}
 use Rattle.hld.specs.Build.{Builds}
 use Rattle.queries.specs.Queries.{lca}
-use Rattle.climb.specs.declared.answers.Answer.the-variants.{Is}
+use Rattle.answers.specs.declared.answer.Answer.the-variants.{Is}
 use Rattle.ranges.specs.Calls.{listed, rangesOf, rangeRoom, flat}
 use Rattle.ranges.specs.Inner.{ListedAs}
 use Rattle.ranges.specs.Readings.{reading}
 use Rattle.ranges.specs.declared.kinds.PathRange.{PathRange}
 use Rattle.ranges.specs.declared.kinds.Kind.the-variants.{Vertices}
-use Rattle.ranges.specs.declared.kinds.Listed.{Listed}
-use Rattle.ranges.specs.declared.kinds.Listed.the-variants.{Count}
+use Rattle.answers.specs.declared.answer.Listed.{Listed}
+use Rattle.answers.specs.declared.answer.Listed.the-variants.{Count}
 use Rattle.records.specs.Records.{RecordedAs}
 use Rattle.demands.specs.Numbers.{OnPath}
 

@@ -7,7 +7,7 @@ use mathlib.Core.Logic.{inl, inr, by-cases, _≢_, _↔_}
 use mathlib.Core.Bool.{Bool, true}
 use mathlib.Core.List.{List, []}
 use lib.ListN.{length}
-use Rattle.graph.specs.Codes.{done}
+use Rattle.answers.specs.Codes.{done}
 use Rattle.graph.specs.Judgement.{Test, First, Decides}
 use Rattle.graph.specs.Validation.{Sized, Fits, roomOf, opening, GraphCall}
 use Rattle.graph.specs.Steps.{Begun, GraphPart}

@@ -11,7 +11,7 @@ use borrow.Author.Count.{below-more}
 use borrow.Author.Tests.{leb-true, leb-false, eqb-true, eqb-false, not-true, not-false}
 use lib.ListN.{length}
 use Rattle.graph.specs.Judgement.{Test, First, Decides}
-use Rattle.graph.specs.Limits.{maxVertices, maxTargets}
+use Rattle.answers.specs.Limits.{maxVertices, maxTargets}
 use Rattle.graph.specs.Lent.{vertices}
 use Rattle.graph.specs.Validation.{Sized, Leaves}
 

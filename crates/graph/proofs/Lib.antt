@@ -2,6 +2,6 @@ pub mod Frames
 pub mod Neighbours
 pub mod Bits
 pub mod Judging
-pub mod Limits
+pub mod Rooms
 pub mod Passed
 pub mod Calling

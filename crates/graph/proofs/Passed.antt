@@ -5,7 +5,7 @@ use mathlib.Core.Path.{_≡_, refl, subst}
 use mathlib.Core.Logic.{inl, inr, _≢_, _↔_}
 use mathlib.Core.List.{List, [], _∷_, _++_}
 use Rattle.paths.specs.Tree.{AllReached, Tree}
-use Rattle.graph.specs.Codes.{done}
+use Rattle.answers.specs.Codes.{done}
 use Rattle.graph.specs.Judgement.{Test, test, First}
 use Rattle.graph.specs.Lent.{vertices, listOf, Offsets, Targets}
 use Rattle.graph.specs.Validation.{graphTests}

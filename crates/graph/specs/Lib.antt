@@ -1,5 +1,3 @@
-pub mod Limits
-pub mod Codes
 pub mod Judgement
 pub mod Lent
 pub mod Validation

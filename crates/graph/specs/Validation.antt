@@ -5,8 +5,8 @@ use mathlib.Core.Logic.{_≢_}
 use mathlib.Core.List.{List, [], _∷_, _++_}
 use lib.ListN.{length, drop, replicate}
 use Rattle.paths.specs.Tree.{Symmetric, AllReached, Tree}
-use Rattle.graph.specs.Limits.{maxVertices, maxTargets, workRoom}
-use Rattle.graph.specs.Codes.{done, badSize, noRoom, badOffsets, badVertex, badRoot, notSymmetric, disconnected, hasCycle}
+use Rattle.answers.specs.Limits.{maxVertices, maxTargets, workRoom}
+use Rattle.answers.specs.Codes.{done, badSize, noRoom, badOffsets, badVertex, badRoot, notSymmetric, disconnected, hasCycle}
 use Rattle.graph.specs.Judgement.{Test, test, First}
 use Rattle.graph.specs.Lent.{vertices, listOf, Offsets, Targets}
 

@@ -1,10 +1,10 @@
 // How every call that takes a graph begins and ends: it tests sizes and room, and it zeroes the work that it used.
-use crate::codes::BAD_SIZE;
-use crate::codes::DONE;
-use crate::codes::NO_ROOM;
 use crate::lists::sized;
 use crate::lists::vertices;
 use crate::work::zero;
+use answers::codes::BAD_SIZE;
+use answers::codes::DONE;
+use answers::codes::NO_ROOM;
 ghost use Prim.Native.Nat.{_≤_};
 ghost use mathlib.Core.Path.{_≡_};
 ghost use mathlib.Core.Bool.{true};

@@ -1,6 +1,6 @@
 // The list of a vertex, and the tests of sizes, offsets and targets.
-use crate::codes::MAX_TARGETS;
-use crate::codes::MAX_VERTICES;
+use answers::limits::MAX_TARGETS;
+use answers::limits::MAX_VERTICES;
 ghost use mathlib.Core.Path.{_≡_};
 ghost use mathlib.Core.Bool.{true};
 ghost use mathlib.Core.List.{[]};

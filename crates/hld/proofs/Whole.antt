@@ -6,12 +6,12 @@ use mathlib.Core.Logic.{_≢_}
 use mathlib.Core.List.{List}
 use lib.ListN.{length}
 use Rattle.paths.specs.Walk.{Below}
-use Rattle.graph.specs.Codes.{done}
+use Rattle.answers.specs.Codes.{done}
 use Rattle.graph.specs.Judgement.{First}
 use Rattle.graph.specs.Lent.{vertices, listOf}
 use Rattle.graph.specs.Validation.{graphTests}
 use Rattle.graph.proofs.Frames.{only-trans, only-wider}
-use Rattle.graph.proofs.Limits.{vertices-small}
+use Rattle.answers.proofs.Bounds.{vertices-small}
 use Rattle.graph.proofs.Neighbours.{list-below}
 use Rattle.graph.proofs.Passed.{Sound, done-sound}
 use Rattle.validate.specs.Judged.{Judged}

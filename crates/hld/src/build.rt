@@ -1,7 +1,7 @@
 // The build of the six tables.
+use answers::codes::DONE;
 use graph::call::begin;
 use graph::call::finish;
-use graph::codes::DONE;
 use graph::lists::vertices;
 use passes::number;
 use passes::weigh;

@@ -9,12 +9,11 @@ use lib.ListN.{length, getD}
 use borrow.Author.Tests.{le-leb, lt-leb}
 use Rattle.paths.proofs.Top.{top-left, top-right, top-length}
 use Rattle.tables.specs.Tables.{Six}
-use Rattle.climb.specs.Choice.{pick}
+use Rattle.answers.specs.Choice.{pick}
 use Rattle.climb.specs.Sound.{depthIn}
 use Rattle.queries.specs.Queries.{distanceIn, distance, ancestorIn, jumpIn, jump}
-use Rattle.climb.specs.declared.answers.Answer.{Answer}
-use Rattle.climb.specs.declared.answers.Answer.the-variants.{Is, Refused}
-use Rattle.climb.specs.declared.answers.Refusal.the-variants.{TooFar}
+use Rattle.answers.specs.declared.answer.Answer.{Answer}
+use Rattle.answers.specs.declared.answer.Answer.the-variants.{Is, TooFar, Refused}
 use Rattle.pathlaws.specs.Given.{Given, pathIn, topIn}
 use Rattle.pathlaws.proofs.Standing.{answered}
 use Rattle.pathlaws.proofs.Meetings.{climb-meets}
@@ -25,7 +24,7 @@ use Rattle.pathlaws.proofs.AlongPaths.{up-down-length, entry-up, entry-
 abbrev jumpOver : ℕ → Six → (u v k d : ℕ) → Answer
 jumpOver n t u v k d =
     pick (leb k (depthIn t u - d)) (ancestorIn n t u k)
-    (pick (leb k (depthIn t u - d + (depthIn t v - d))) (ancestorIn n t v (depthIn t u - d + (depthIn t v - d) - k)) (Refused TooFar))
+    (pick (leb k (depthIn t u - d + (depthIn t v - d))) (ancestorIn n t v (depthIn t u - d + (depthIn t v - d) - k)) TooFar)
 
 module _ {n root : ℕ} {A : ℕ → List ℕ} {t : Six} {kids : ℕ → List ℕ} (G : Given n A root t kids) where
   -- `distance` answers the length of the simple path
@@ -65,7 +64,7 @@ module _ {n root : ℕ} {A : ℕ → List ℕ} {t : Six} {kids : ℕ → List �
       ]
 
   -- and is refused if k exceeds the distance
-  pub jump-too-far : (k : ℕ) {u v : ℕ} → u < n → v < n → length (pathIn t u v) < k → jump t u v k ≡ Refused TooFar
+  pub jump-too-far : (k : ℕ) {u v : ℕ} → u < n → v < n → length (pathIn t u v) < k → jump t u v k ≡ TooFar
   jump-too-far k {u} {v} hu hv h =
       let d : ℕ = depthIn t (topIn t u v) in
       let l = up-down-length (G .tables .spans .rooted) hu hv in

@@ -12,25 +12,24 @@ use Rattle.sums.specs.Sum.{at}
 use Rattle.paths.specs.Rooted.{climb}
 use Rattle.paths.proofs.Above.{climb-add, root-anc}
 use Rattle.paths.proofs.Ancestors.{climb-length, climb-entry}
-use Rattle.graph.specs.Limits.{noParent}
+use Rattle.answers.specs.Limits.{noParent}
 use Rattle.numbering.specs.Log.{log2}
 use Rattle.numbering.proofs.Bounds.{lights-one, lights-log}
 use Rattle.numbering.proofs.Chains.{head-anc, head-below, head-dep, chain-ind}
 use Rattle.numbering.proofs.Climbs.{climb-below, climb-depth, climb-id, climb-order}
 use Rattle.tables.specs.Tables.{Six}
-use Rattle.climb.specs.Choice.{pick}
+use Rattle.answers.specs.Choice.{pick}
 use Rattle.climb.specs.Sound.{parentIn, depthIn, headIn, idIn, placeOf}
 use Rattle.queries.specs.Queries.{entryAt, ancestorFrom, ancestorIn, kthAncestor}
 use Rattle.climb.specs.declared.places.Place.{Place}
-use Rattle.climb.specs.declared.answers.Answer.{Answer}
-use Rattle.climb.specs.declared.answers.Answer.the-variants.{Is, Refused}
-use Rattle.climb.specs.declared.answers.Refusal.the-variants.{TooFar}
+use Rattle.answers.specs.declared.answer.Answer.{Answer}
+use Rattle.answers.specs.declared.answer.Answer.the-variants.{Is, TooFar, Refused}
 use Rattle.pathlaws.specs.Given.{Given, pathIn, lightsIn}
 use Rattle.pathlaws.proofs.Standing.{up-below, up-parent, top-parent, stand-vertex, answered}
 
 -- the ancestor k steps above v, or that there is none
 abbrev found : Six → (v k : ℕ) → Answer
-found t v k = pick (leb k (depthIn t v)) (Is (climb (at (t .parent)) k v)) (Refused TooFar)
+found t v k = pick (leb k (depthIn t v)) (Is (climb (at (t .parent)) k v)) TooFar
 
 -- as many steps as the chain has above the place lead to an entry of the order
 ancestor-on : (chains n : ℕ) (t : Six) (p : Place) (k : ℕ) → k ≤ p .depth - p .top → ancestorFrom chains n t p k ≡ entryAt n t (p .id - k) (p .depth - k)
@@ -40,7 +39,7 @@ ancestor-on (suc chains) n t p k h = rw (le-leb k (p .depth - p .top) h)
 
 -- more are too many where the chain has no parent
 ancestor-none :
-    (chains n : ℕ) (t : Six) (p : Place) (k : ℕ) → p .depth - p .top < k → eqb (p .up) noParent ≡ true → ancestorFrom chains n t p k ≡ Refused TooFar
+    (chains n : ℕ) (t : Six) (p : Place) (k : ℕ) → p .depth - p .top < k → eqb (p .up) noParent ≡ true → ancestorFrom chains n t p k ≡ TooFar
 unfolding ancestorFrom
 ancestor-none zero n t p k h e = rw (lt-leb k (p .depth - p .top) h, e)
 ancestor-none (suc chains) n t p k h e = rw (lt-leb k (p .depth - p .top) h, e)
@@ -136,7 +135,7 @@ module _ {n root : ℕ} {A : ℕ → List ℕ} {t : Six} {kids : ℕ → List �
       rw (stand-vertex G hv, ancestorIn, searched (log2 n) k hv (lights-log (G .tables .numbering) hv), le-leb k (depthIn t v) h)
 
   -- or that there is none
-  pub ancestor-missing : (k : ℕ) {v : ℕ} → v < n → depthIn t v < k → ancestorIn n t v k ≡ Refused TooFar
+  pub ancestor-missing : (k : ℕ) {v : ℕ} → v < n → depthIn t v < k → ancestorIn n t v k ≡ TooFar
   ancestor-missing k {v} hv h =
       rw (stand-vertex G hv, ancestorIn, searched (log2 n) k hv (lights-log (G .tables .numbering) hv), lt-leb k (depthIn t v) h)
 
@@ -159,5 +158,5 @@ module _ {n root : ℕ} {A : ℕ → List ℕ} {t : Six} {kids : ℕ → List �
       kth-ancestor k hv h ∙ ap Is (sym (climb-entry (G .tables .spans .rooted) (a .0) k root hv (a .1) (a .2) (omega arith)))
 
   -- `kth_ancestor` is refused where there is no vertex k steps above v
-  pub kth-too-far : (k : ℕ) {v : ℕ} → v < n → depthIn t v < k → kthAncestor t v k ≡ Refused TooFar
+  pub kth-too-far : (k : ℕ) {v : ℕ} → v < n → depthIn t v < k → kthAncestor t v k ≡ TooFar
   kth-too-far k {v} hv h = answered G (v ∷ []) Refused (λ m. ancestorIn m t v k) (hv, tt) ∙ ancestor-missing k hv h

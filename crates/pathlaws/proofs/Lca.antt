@@ -13,7 +13,7 @@ use Rattle.tables.specs.Tables.{Six}
 use Rattle.climb.specs.Sound.{depthIn, placeOf}
 use Rattle.queries.specs.Queries.{deeper, lcaIn, lca}
 use Rattle.climb.specs.declared.places.Place.{Place}
-use Rattle.climb.specs.declared.answers.Answer.the-variants.{Is, Refused}
+use Rattle.answers.specs.declared.answer.Answer.the-variants.{Is, Refused}
 use Rattle.pathlaws.specs.Given.{Given, topIn}
 use Rattle.pathlaws.proofs.Standing.{answered}
 use Rattle.pathlaws.proofs.Meetings.{climb-meets}

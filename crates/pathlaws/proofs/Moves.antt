@@ -17,8 +17,8 @@ use Rattle.paths.proofs.Cut.{cut-length}
 use Rattle.tables.specs.Tables.{Six}
 use Rattle.climb.specs.Sound.{parentIn, depthIn}
 use Rattle.queries.specs.Queries.{distance, jump, subtreeSize}
-use Rattle.climb.specs.declared.answers.Answer.{Answer}
-use Rattle.climb.specs.declared.answers.Answer.the-variants.{Is}
+use Rattle.answers.specs.declared.answer.Answer.{Answer}
+use Rattle.answers.specs.declared.answer.Answer.the-variants.{Is}
 use Rattle.pathlaws.specs.Given.{Given, pathIn, OnIn, AncIn, through?}
 use Rattle.pathlaws.proofs.AlongPaths.{entry-turn, entry-on, entry-length, entry-entry}
 use Rattle.pathlaws.proofs.Jumps.{distance-answer, jump-answer}

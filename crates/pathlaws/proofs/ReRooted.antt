@@ -14,7 +14,7 @@ use Rattle.paths.proofs.Top.{top-left, top-right, top-on}
 use Rattle.numbering.proofs.Sizes.{size-count}
 use Rattle.tables.specs.Tables.{Six, NumberingOf}
 use Rattle.queries.specs.Queries.{lca, subtreeSize}
-use Rattle.climb.specs.declared.answers.Answer.the-variants.{Is}
+use Rattle.answers.specs.declared.answer.Answer.the-variants.{Is}
 use Rattle.pathlaws.specs.Given.{Given, OnIn, through?}
 use Rattle.pathlaws.proofs.Lca.{lca-answer}
 use Rattle.pathlaws.proofs.SubtreeSizes.{through-on, subtree-size}

@@ -13,11 +13,11 @@ use Rattle.tables.specs.Tables.{Six}
 use Rattle.climb.specs.Sound.{depthIn, idIn}
 use Rattle.climb.specs.Asked.{asked}
 use Rattle.queries.specs.Queries.{subtreeRange, kthAncestor, jump}
-use Rattle.climb.specs.declared.answers.Refusal.the-variants.{BadVertex, BadTable, TooFar}
-use Rattle.climb.specs.declared.answers.Answer.{Answer}
-use Rattle.climb.specs.declared.answers.Answer.the-variants.{Is, Refused}
-use Rattle.climb.specs.declared.answers.Interval.{Interval}
-use Rattle.climb.specs.declared.answers.Interval.the-variants.{Between, Refused as NoInterval}
+use Rattle.answers.specs.declared.answer.Refusal.the-variants.{BadVertex, BadTable}
+use Rattle.answers.specs.declared.answer.Answer.{Answer}
+use Rattle.answers.specs.declared.answer.Answer.the-variants.{Is, TooFar, Refused}
+use Rattle.answers.specs.declared.answer.Interval.{Interval}
+use Rattle.answers.specs.declared.answer.Interval.the-variants.{Between, Refused as NoInterval}
 use Rattle.pathlaws.specs.Given.{Given, pathIn}
 use Rattle.pathlaws.specs.NeverNine.{NeverNine}
 use Rattle.pathlaws.proofs.Standing.{asked-or-refused}
@@ -33,10 +33,10 @@ IsNumber q = (x : ℕ) × (q ≡ Is x)
 
 -- the answer is a number, or that k is too far
 abbrev pub NumberOrFar : Answer → Type 0
-NumberOrFar q = IsNumber q ⊎ (q ≡ Refused TooFar)
+NumberOrFar q = IsNumber q ⊎ (q ≡ TooFar)
 
 -- a number is no refusal
-number-not-far : (q : Answer) (x : ℕ) → q ≡ Is x → q ≢ Refused TooFar
+number-not-far : (q : Answer) (x : ℕ) → q ≡ Is x → q ≢ TooFar
 number-not-far q x e f = let z : _≡_ {A = ℕ} 0 1 = cc in omega arith
 
 -- neither a number nor "too far" is 9, nor is the refusal of an argument
@@ -52,7 +52,7 @@ between-not-nine q a b (inr e) f = let z : _≡_ {A = ℕ} 0 1 = cc in omega ari
 
 module _ {n root : ℕ} {A : ℕ → List ℕ} {t : Six} {kids : ℕ → List ℕ} (G : Given n A root t kids) where
   -- `kth_ancestor` is refused exactly if there is no k-th ancestor
-  pub kth-refused : (k : ℕ) {v : ℕ} → v < n → (kthAncestor t v k ≡ Refused TooFar) ↔ (depthIn t v < k)
+  pub kth-refused : (k : ℕ) {v : ℕ} → v < n → (kthAncestor t v k ≡ TooFar) ↔ (depthIn t v < k)
   kth-refused k {v} hv = (
     λ e. elim (decLe k (depthIn t v)) [
       | yes h ↦ absurd (number-not-far (kthAncestor t v k) (climb (at (t .parent)) k v) (kth-ancestor G k hv h) e)
@@ -62,7 +62,7 @@ module _ {n root : ℕ} {A : ℕ → List ℕ} {t : Six} {kids : ℕ → List �
   )
 
   -- `jump` is refused exactly if k exceeds the distance
-  pub jump-refused : (k : ℕ) {u v : ℕ} → u < n → v < n → (jump t u v k ≡ Refused TooFar) ↔ (length (pathIn t u v) < k)
+  pub jump-refused : (k : ℕ) {u v : ℕ} → u < n → v < n → (jump t u v k ≡ TooFar) ↔ (length (pathIn t u v) < k)
   jump-refused k {u} {v} hu hv = (
     λ e. elim (decLe k (length (pathIn t u v))) [
       | yes h ↦ absurd (number-not-far (jump t u v k) (getD (u ∷ pathIn t u v) k 0) (jump-answer G k hu hv h) e)

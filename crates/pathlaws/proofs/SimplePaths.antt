@@ -12,8 +12,7 @@ use Rattle.paths.proofs.Listed.{in-below, from-last}
 use Rattle.paths.proofs.Unique.{path-simple, path-unique}
 use Rattle.tables.specs.Tables.{Six}
 use Rattle.queries.specs.Queries.{distance, kthAncestor, jump, lca, subtreeSize}
-use Rattle.climb.specs.declared.answers.Answer.the-variants.{Is, Refused}
-use Rattle.climb.specs.declared.answers.Refusal.the-variants.{TooFar}
+use Rattle.answers.specs.declared.answer.Answer.the-variants.{Is, TooFar, Refused}
 use Rattle.pathlaws.specs.Given.{Given, OnIn}
 use Rattle.pathlaws.proofs.KthAncestor.{kth-on-path, kth-too-far, depth-path}
 use Rattle.pathlaws.proofs.Jumps.{distance-answer, jump-answer, jump-too-far}
@@ -42,7 +41,7 @@ module _ {n root : ℕ} {A : ℕ → List ℕ} {t : Six} {kids : ℕ → List �
       rw e (jump-answer G k (first-below s) (last-below s) (omega arith))
 
   -- and refused if k exceeds its length
-  pub jump-simple-too-far : (k : ℕ) {u v : ℕ} {P : List ℕ} → Simple n (Stands A) u v P → length P < k → jump t u v k ≡ Refused TooFar
+  pub jump-simple-too-far : (k : ℕ) {u v : ℕ} {P : List ℕ} → Simple n (Stands A) u v P → length P < k → jump t u v k ≡ TooFar
   jump-simple-too-far k s h =
       let l = ap length (path-unique (G .tables .spans) s) in
       jump-too-far G k (first-below s) (last-below s) (omega arith)
@@ -56,7 +55,7 @@ module _ {n root : ℕ} {A : ℕ → List ℕ} {t : Six} {kids : ℕ → List �
       rw e (kth-on-path G k (first-below s) (omega arith))
 
   -- and refused if k exceeds its length
-  pub kth-simple-too-far : (k : ℕ) {v : ℕ} {P : List ℕ} → Simple n (Stands A) v root P → length P < k → kthAncestor t v k ≡ Refused TooFar
+  pub kth-simple-too-far : (k : ℕ) {v : ℕ} {P : List ℕ} → Simple n (Stands A) v root P → length P < k → kthAncestor t v k ≡ TooFar
   kth-simple-too-far k s h =
       let l = ap length (path-unique (G .tables .spans) s) in
       let d = depth-path G (first-below s) in

@@ -10,12 +10,12 @@ use Rattle.sums.specs.Sum.{at}
 use Rattle.numbering.proofs.Subtrees.{size-pos, anc-interval}
 use Rattle.numbering.proofs.Whole.{interval-below}
 use Rattle.tables.specs.Tables.{Six}
-use Rattle.climb.specs.Choice.{pick, both}
+use Rattle.answers.specs.Choice.{pick, both}
 use Rattle.climb.specs.Sound.{depthIn, idIn, sound?}
 use Rattle.queries.specs.Queries.{vertexCount, rootOf, depthOf, vertexId, sizeSound?, subtreeRange}
-use Rattle.climb.specs.declared.answers.Answer.the-variants.{Is, Refused}
-use Rattle.climb.specs.declared.answers.Refusal.the-variants.{BadTable}
-use Rattle.climb.specs.declared.answers.Interval.the-variants.{Between, Refused as NoInterval}
+use Rattle.answers.specs.declared.answer.Answer.the-variants.{Is, Refused}
+use Rattle.answers.specs.declared.answer.Refusal.the-variants.{BadTable}
+use Rattle.answers.specs.declared.answer.Interval.the-variants.{Between, Refused as NoInterval}
 use Rattle.pathlaws.specs.Given.{Given, AncIn}
 use Rattle.pathlaws.proofs.Standing.{both-pass, sound-vertex, answered}
 

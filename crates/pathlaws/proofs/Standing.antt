@@ -11,15 +11,17 @@ use borrow.Author.Tests.{lt-ltb, le-ltb, le-leb, eq-eqb, ne-eqb}
 use Rattle.sums.specs.Sum.{at}
 use Rattle.paths.specs.Walk.{Below}
 use Rattle.paths.proofs.Canon.{root-ind}
-use Rattle.graph.specs.Limits.{maxVertices, noParent}
+use Rattle.answers.specs.Limits.{maxVertices, noParent}
+use Rattle.answers.proofs.Bounds.{vertices-parents}
 use Rattle.numbering.proofs.Whole.{id-below}
 use Rattle.numbering.proofs.Chains.{head-below, head-dep, head-first, head-id, par-first, top-chain}
 use Rattle.tables.specs.Tables.{Six}
-use Rattle.climb.specs.Choice.{both}
+use Rattle.answers.specs.Choice.{both}
 use Rattle.climb.specs.Sound.{parentIn, depthIn, headIn, idIn, hung?, sound?, placeOf, standOn, On}
-use Rattle.climb.specs.Asked.{sizeOf, tables?, vertices?, asked}
-use Rattle.climb.specs.declared.answers.Refusal.{Refusal}
-use Rattle.climb.specs.declared.answers.Refusal.the-variants.{BadVertex}
+use Rattle.answers.specs.Asked.{vertices?}
+use Rattle.climb.specs.Asked.{sizeOf, tables?, asked}
+use Rattle.answers.specs.declared.answer.Refusal.{Refusal}
+use Rattle.answers.specs.declared.answer.Refusal.the-variants.{BadVertex}
 use Rattle.pathlaws.specs.Given.{Given}
 
 -- two tests that pass, pass together
@@ -28,8 +30,7 @@ both-pass e f = rw (e, f)
 
 -- a vertex is never taken for "no parent"
 vertex-parent : (n p : ℕ) → n ≤ maxVertices → p < n → p ≢ noParent
-unfolding maxVertices noParent
-vertex-parent n p h b e = omega arith
+vertex-parent n p h b e = let l = vertices-parents in omega arith
 
 module _ {n root : ℕ} {A : ℕ → List ℕ} {t : Six} {kids : ℕ → List ℕ} (G : Given n A root t kids) where
   -- a vertex is no deeper than its number
@@ -99,7 +100,7 @@ module _ {n root : ℕ} {A : ℕ → List ℕ} {t : Six} {kids : ℕ → List �
       (both-pass (eq-eqb _ (sizeOf t) (omega arith))
       (both-pass (eq-eqb _ (sizeOf t) (omega arith))
       (both-pass (eq-eqb _ (sizeOf t) (omega arith))
-      (both-pass (eq-eqb _ (sizeOf t) (omega arith)) (eq-eqb _ (sizeOf t) (omega arith)))))))
+      (both-pass (eq-eqb _ (sizeOf t) (omega arith)) (both-pass (eq-eqb _ (sizeOf t) (omega arith)) refl))))))
 
 -- vertices pass the test of arguments
 vertices-pass : (n : ℕ) (vs : List ℕ) → Below n vs → vertices? n vs ≡ true

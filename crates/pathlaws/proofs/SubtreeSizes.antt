@@ -16,11 +16,11 @@ use Rattle.paths.proofs.Steps.{on-last}
 use Rattle.numbering.proofs.Subtrees.{anc-interval}
 use Rattle.numbering.proofs.Sizes.{size-count}
 use Rattle.tables.specs.Tables.{Six}
-use Rattle.climb.specs.Choice.{pick, both}
+use Rattle.answers.specs.Choice.{pick, both}
 use Rattle.climb.specs.Sound.{depthIn, idIn, sound?}
 use Rattle.queries.specs.Queries.{reRootedSize, subtreeSize}
-use Rattle.climb.specs.declared.answers.Answer.the-variants.{Is, Refused}
-use Rattle.climb.specs.declared.answers.Refusal.the-variants.{BadTable}
+use Rattle.answers.specs.declared.answer.Answer.the-variants.{Is, Refused}
+use Rattle.answers.specs.declared.answer.Refusal.the-variants.{BadTable}
 use Rattle.pathlaws.specs.Given.{Given, pathIn, OnIn, AncIn, through?}
 use Rattle.pathlaws.proofs.Standing.{both-pass, sound-vertex, answered}
 use Rattle.pathlaws.proofs.SingleEntries.{size-pass}

@@ -6,7 +6,7 @@ use lib.Dec.{ltb}
 use Rattle.sums.specs.Sum.{at, count}
 use Rattle.paths.specs.Rooted.{Anc}
 use Rattle.paths.specs.Route.{ptail, top, On}
-use Rattle.graph.specs.Limits.{maxVertices}
+use Rattle.answers.specs.Limits.{maxVertices}
 use Rattle.numbering.specs.Lights.{lights}
 use Rattle.tables.specs.Tables.{Six, NumberingOf}
 

@@ -3,9 +3,9 @@ use Prim.Native.Nat.{ℕ}
 use mathlib.Core.Logic.{_≢_}
 use Rattle.tables.specs.Tables.{Six}
 use Rattle.queries.specs.Queries.{vertexCount, rootOf, depthOf, vertexId, subtreeRange, distance, lca, kthAncestor, jump, subtreeSize}
-use Rattle.climb.specs.declared.answers.Refusal.the-variants.{BadTable}
-use Rattle.climb.specs.declared.answers.Answer.the-variants.{Refused}
-use Rattle.climb.specs.declared.answers.Interval.the-variants.{Refused as NoInterval}
+use Rattle.answers.specs.declared.answer.Refusal.the-variants.{BadTable}
+use Rattle.answers.specs.declared.answer.Answer.the-variants.{Refused}
+use Rattle.answers.specs.declared.answer.Interval.the-variants.{Refused as NoInterval}
 
 pub record NeverNine (t : Six) : Type 0 where
   pub of-vertex-count : vertexCount t ≢ Refused BadTable

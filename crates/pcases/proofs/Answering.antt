@@ -6,13 +6,13 @@ use mathlib.Core.List.{List}
 use lib.Dec.{eqb}
 use borrow.Author.Tests.{eqb-true}
 use Rattle.tables.specs.Tables.{Six}
-use Rattle.climb.specs.Choice.{pick}
-use Rattle.climb.specs.Answers.{refusalCode}
+use Rattle.answers.specs.Choice.{pick}
+use Rattle.answers.specs.Answers.{refusalCode}
 use Rattle.climb.specs.Asked.{sizeOf}
-use Rattle.climb.specs.declared.answers.Refusal.{Refusal}
-use Rattle.climb.specs.declared.answers.Refusal.the-variants.{BadSize, NoRoom, BadVertex, BadTable, TooFar}
-use Rattle.climb.specs.declared.answers.Answer.{Answer}
-use Rattle.climb.specs.declared.answers.Answer.the-variants.{Is, Refused}
+use Rattle.answers.specs.declared.answer.Refusal.{Refusal}
+use Rattle.answers.specs.declared.answer.Refusal.the-variants.{BadSize, NoRoom, BadVertex, BadTable}
+use Rattle.answers.specs.declared.answer.Answer.{Answer}
+use Rattle.answers.specs.declared.answer.Answer.the-variants.{Is, TooFar, Refused}
 use Rattle.ranges.specs.Ranges.{Found, lost, found, pathRanges}
 use Rattle.ranges.specs.declared.kinds.Direction.{Direction}
 use Rattle.ranges.specs.declared.kinds.Direction.the-variants.{Forward, Reversed}
@@ -26,7 +26,7 @@ use Rattle.pcases.proofs.Numbering.{tables-right}
 
 -- the refusal that a code stands for
 refusalOf : ℕ → Refusal
-refusalOf c = pick (eqb c 1) BadSize (pick (eqb c 2) NoRoom (pick (eqb c 4) BadVertex (pick (eqb c 9) BadTable TooFar)))
+refusalOf c = pick (eqb c 1) BadSize (pick (eqb c 2) NoRoom (pick (eqb c 4) BadVertex BadTable))
 
 refusal-of-code : (r : Refusal) → refusalOf (refusalCode r) ≡ r
 unfolding refusalOf
@@ -34,12 +34,16 @@ refusal-of-code BadSize = refl
 refusal-of-code NoRoom = refl
 refusal-of-code BadVertex = refl
 refusal-of-code BadTable = refl
-refusal-of-code TooFar = refl
 
 same-answer : (a b : Answer) → sameAnswer a b ≡ true → a ≡ b
 same-answer (Is x) (Is y) e = ap Is (eqb-true x y e)
+same-answer (Is x) TooFar e = absurd (false≢true e)
 same-answer (Is x) (Refused s) e = absurd (false≢true e)
+same-answer TooFar (Is y) e = absurd (false≢true e)
+same-answer TooFar TooFar e = refl
+same-answer TooFar (Refused s) e = absurd (false≢true e)
 same-answer (Refused r) (Is y) e = absurd (false≢true e)
+same-answer (Refused r) TooFar e = absurd (false≢true e)
 same-answer (Refused r) (Refused s) e =
     ap Refused (sym (refusal-of-code r) ∙ ap refusalOf (eqb-true (refusalCode r) (refusalCode s) e) ∙ refusal-of-code s)
 

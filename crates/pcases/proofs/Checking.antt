@@ -7,7 +7,7 @@ use mathlib.Core.Bool.{Bool, true, false, false≢true}
 use mathlib.Core.List.{List, [], _∷_}
 use Rattle.sums.proofs.Sums.{up-to}
 use Rattle.paths.specs.Walk.{In}
-use Rattle.climb.specs.Choice.{pick, both}
+use Rattle.answers.specs.Choice.{pick, both}
 use Rattle.pcases.specs.Cases.{Each}
 use Rattle.pcases.specs.Checks.{below, every, some, sameList, all}
 

@@ -8,8 +8,8 @@ use lib.Dec.{eqb, leb, ltb}
 use lib.ListN.{length}
 use borrow.Author.Tests.{eqb-true, eqb-false, leb-true, ltb-true, le-leb, ne-eqb, not-true}
 use Rattle.sums.specs.Sum.{howMany}
-use Rattle.graph.specs.Limits.{noParent}
-use Rattle.climb.specs.Choice.{pick, both}
+use Rattle.answers.specs.Limits.{noParent}
+use Rattle.answers.specs.Choice.{pick, both}
 use Rattle.centroid.specs.Components.{componentOf, inPart, Halves, CentroidFrom}
 use Rattle.centroid.specs.Decomposition.{Began, first, next, CentroidAt}
 use Rattle.pcases.specs.Checks.{all}

@@ -11,7 +11,7 @@ use Rattle.sums.specs.Sum.{at}
 use Rattle.paths.specs.Walk.{In}
 use Rattle.paths.specs.Rooted.{Child}
 use Rattle.paths.proofs.Listed.{in-below}
-use Rattle.graph.specs.Limits.{noParent}
+use Rattle.answers.specs.Limits.{noParent}
 use Rattle.numbering.specs.Numbering.{total, Numbered, Light, Chained, Arranged}
 use Rattle.numbering.specs.RuleOne.{childrenOf}
 use Rattle.numbering.proofs.Kept.{keep-once, children-in}

@@ -4,7 +4,7 @@ use mathlib.Core.Bool.{true}
 use lib.Dec.{eqb, ltb}
 use borrow.Author.Tests.{eqb-true, ltb-true}
 use Rattle.paths.specs.Route.{route, ptail}
-use Rattle.graph.specs.Limits.{maxVertices, maxTargets, noParent}
+use Rattle.answers.specs.Limits.{maxVertices, maxTargets, noParent}
 use Rattle.graph.specs.Lent.{listOf}
 use Rattle.numbering.specs.Log.{halvings, log2}
 use Rattle.climb.specs.Sound.{sound?}

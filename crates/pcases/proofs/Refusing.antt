@@ -9,12 +9,12 @@ use lib.ListN.{length}
 use borrow.Author.Tests.{eqb-true, leb-true, ltb-true, eq-eqb, le-leb, lt-ltb}
 use Rattle.sums.specs.Sum.{at, count}
 use Rattle.paths.specs.Tree.{Symmetric}
-use Rattle.graph.specs.Limits.{maxVertices, maxTargets}
+use Rattle.answers.specs.Limits.{maxVertices, maxTargets}
 use Rattle.graph.specs.Judgement.{Test, First}
 use Rattle.graph.specs.Lent.{vertices, listOf, Offsets, Targets}
 use Rattle.graph.specs.Validation.{Sized, roomOf, validation}
 use Rattle.graph.proofs.Judging.{first-one}
-use Rattle.climb.specs.Choice.{pick}
+use Rattle.answers.specs.Choice.{pick}
 use Rattle.pcases.specs.Cases.{Graph, Gives, HasCode}
 use Rattle.pcases.specs.Checks.{all}
 use Rattle.pcases.specs.GraphChecks.{sizedTests, offsetsTests, targets?, symmetric?, Verdict, verdicts, firstCode}

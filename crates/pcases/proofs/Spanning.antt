@@ -13,10 +13,10 @@ use Rattle.paths.specs.Tree.{Tree}
 use Rattle.paths.specs.Rooted.{Rooted, Spans}
 use Rattle.paths.specs.Route.{links}
 use Rattle.paths.proofs.Links.{links-span, links-tree}
-use Rattle.graph.specs.Codes.{done}
+use Rattle.answers.specs.Codes.{done}
 use Rattle.graph.proofs.Neighbours.{list-below}
 use Rattle.graph.proofs.Passed.{tree-reached}
-use Rattle.climb.specs.Choice.{pick, both}
+use Rattle.answers.specs.Choice.{pick, both}
 use Rattle.pcases.specs.Cases.{Graph, verticesOf, listsOf, Gives}
 use Rattle.pcases.specs.Checks.{all}
 use Rattle.pcases.specs.GraphChecks.{lentTests, rootedTests, treeTests}

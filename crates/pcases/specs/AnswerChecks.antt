@@ -2,10 +2,10 @@
 use mathlib.Core.Bool.{Bool, true, false}
 use mathlib.Core.List.{List}
 use lib.Dec.{eqb}
-use Rattle.climb.specs.Answers.{refusalCode}
-use Rattle.climb.specs.declared.answers.Answer.{Answer}
-use Rattle.climb.specs.declared.answers.Answer.the-variants.{Is, Refused}
-use Rattle.climb.specs.Choice.{both}
+use Rattle.answers.specs.Answers.{refusalCode}
+use Rattle.answers.specs.declared.answer.Answer.{Answer}
+use Rattle.answers.specs.declared.answer.Answer.the-variants.{Is, TooFar, Refused}
+use Rattle.answers.specs.Choice.{both}
 use Rattle.ranges.specs.Ranges.{Found, lost, found}
 use Rattle.ranges.specs.declared.kinds.Direction.{Direction}
 use Rattle.ranges.specs.declared.kinds.Direction.the-variants.{Forward, Reversed}
@@ -15,8 +15,13 @@ use Rattle.pcases.specs.Checks.{sameList}
 -- refusals are told apart by their codes
 abbrev pub sameAnswer : Answer → Answer → Bool
 sameAnswer (Is x) (Is y) = eqb x y
+sameAnswer (Is x) TooFar = false
 sameAnswer (Is x) (Refused s) = false
+sameAnswer TooFar (Is y) = false
+sameAnswer TooFar TooFar = true
+sameAnswer TooFar (Refused s) = false
 sameAnswer (Refused r) (Is y) = false
+sameAnswer (Refused r) TooFar = false
 sameAnswer (Refused r) (Refused s) = eqb (refusalCode r) (refusalCode s)
 
 abbrev pub sameDirection : Direction → Direction → Bool

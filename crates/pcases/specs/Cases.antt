@@ -6,14 +6,14 @@ use lib.ListN.{length}
 use Rattle.sums.specs.Sum.{at}
 use Rattle.paths.specs.Walk.{Stands}
 use Rattle.paths.specs.Rooted.{Spans}
-use Rattle.graph.specs.Codes.{done}
+use Rattle.answers.specs.Codes.{done}
 use Rattle.graph.specs.Judgement.{First}
 use Rattle.graph.specs.Lent.{vertices, listOf}
 use Rattle.graph.specs.Validation.{roomOf, validation, Validates}
 use Rattle.tables.specs.Tables.{Six, TablesOf}
 use Rattle.climb.specs.Asked.{sizeOf}
 use Rattle.queries.specs.Queries.{subtreeSize, lca, jump}
-use Rattle.climb.specs.declared.answers.Answer.{Answer}
+use Rattle.answers.specs.declared.answer.Answer.{Answer}
 use Rattle.ranges.specs.Ranges.{found, pathRanges}
 use Rattle.ranges.specs.declared.kinds.Kind.{Kind}
 use Rattle.ranges.specs.declared.kinds.PathRange.{PathRange}

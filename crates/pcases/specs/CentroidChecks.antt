@@ -6,9 +6,9 @@ use lib.Dec.{eqb, leb, ltb}
 use lib.ListN.{length}
 use Rattle.sums.specs.Sum.{at, howMany}
 use Rattle.paths.specs.Route.{ptail}
-use Rattle.graph.specs.Limits.{noParent}
+use Rattle.answers.specs.Limits.{noParent}
 use Rattle.centroid.specs.Components.{componentOf, inPart}
-use Rattle.climb.specs.Choice.{pick, both}
+use Rattle.answers.specs.Choice.{pick, both}
 use Rattle.pcases.specs.Checks.{below, some, all}
 
 -- removal of v leaves parts of at most half the vertices

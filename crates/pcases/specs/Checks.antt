@@ -2,7 +2,7 @@
 use Prim.Native.Nat.{ℕ, zero, suc}
 use mathlib.Core.Bool.{Bool, true, false}
 use mathlib.Core.List.{List, [], _∷_}
-use Rattle.climb.specs.Choice.{pick, both}
+use Rattle.answers.specs.Choice.{pick, both}
 
 -- every number below n passes
 abbrev pub below : ℕ → (ℕ → Bool) → Bool

@@ -6,10 +6,10 @@ use lib.Dec.{eqb, leb, ltb}
 use lib.ListN.{length}
 use Rattle.sums.specs.Sum.{at, count}
 use Rattle.paths.specs.Route.{links}
-use Rattle.graph.specs.Limits.{maxVertices, maxTargets}
-use Rattle.graph.specs.Codes.{done, badSize, noRoom, badOffsets, badVertex, badRoot, notSymmetric}
+use Rattle.answers.specs.Limits.{maxVertices, maxTargets}
+use Rattle.answers.specs.Codes.{done, badSize, noRoom, badOffsets, badVertex, badRoot, notSymmetric}
 use Rattle.graph.specs.Lent.{vertices, listOf}
-use Rattle.climb.specs.Choice.{pick, both}
+use Rattle.answers.specs.Choice.{pick, both}
 use Rattle.pcases.specs.Checks.{below, all}
 
 abbrev pub sizedTests : (os ts : List ℕ) → List Bool

@@ -4,7 +4,7 @@ use mathlib.Core.Bool.{Bool}
 use mathlib.Core.List.{List}
 use lib.Dec.{eqb, ltb}
 use Rattle.sums.specs.Sum.{at}
-use Rattle.climb.specs.Choice.{both}
+use Rattle.answers.specs.Choice.{both}
 use Rattle.climb.specs.Asked.{sizeOf}
 use Rattle.ranges.specs.Ranges.{pathRanges}
 use Rattle.pcases.specs.Cases.{Graph, verticesOf, listsOf, Example, answerTo, Case, refused, numbered, answered, ranged, decomposed}

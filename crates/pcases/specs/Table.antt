@@ -1,9 +1,8 @@
 -- 01, "Examples with their neighbours": every line that is marked P, quoted, with its cases.
 use mathlib.Core.List.{List, [], _∷_}
-use Rattle.graph.specs.Limits.{noParent}
-use Rattle.graph.specs.Codes.{notSymmetric}
-use Rattle.climb.specs.declared.answers.Answer.the-variants.{Is, Refused}
-use Rattle.climb.specs.declared.answers.Refusal.the-variants.{TooFar}
+use Rattle.answers.specs.Limits.{noParent}
+use Rattle.answers.specs.Codes.{notSymmetric}
+use Rattle.answers.specs.declared.answer.Answer.the-variants.{Is, TooFar, Refused}
 use Rattle.ranges.specs.Ranges.{range}
 use Rattle.ranges.specs.declared.kinds.Direction.the-variants.{Forward, Reversed}
 use Rattle.ranges.specs.declared.kinds.Kind.the-variants.{Vertices, Edges, Both}
@@ -76,7 +75,7 @@ table =
     ∷ ranged T Both 2 2 (range 6 7 Forward ∷ [])
     -- "P T: jump(3,2,3)=2; jump(3,2,4) TooFar."
     ∷ answered T (jump-of 3 2 3) (Is 2)
-    ∷ answered T (jump-of 3 2 4) (Refused TooFar)
+    ∷ answered T (jump-of 3 2 4) TooFar
     -- "P S: ids of 0..3 are 0,1,3,2; vertex ranges 2 to 3: (3,4,R),(0,1,F),(2,3,F)."
     ∷ numbered S
     ∷ ranged S Vertices 2 3 (range 3 4 Reversed ∷ range 0 1 Forward ∷ range 2 3 Forward ∷ [])

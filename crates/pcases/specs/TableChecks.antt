@@ -5,10 +5,10 @@ use mathlib.Core.List.{List, [], _∷_}
 use lib.Dec.{eqb, leb}
 use lib.ListN.{length}
 use Rattle.sums.specs.Sum.{at}
-use Rattle.graph.specs.Limits.{noParent}
+use Rattle.answers.specs.Limits.{noParent}
 use Rattle.numbering.specs.Numbering.{total}
 use Rattle.tables.specs.Tables.{Six, kidsByRuleOne}
-use Rattle.climb.specs.Choice.{both}
+use Rattle.answers.specs.Choice.{both}
 use Rattle.pcases.specs.Checks.{below, all}
 
 abbrev pub longTests : ℕ → Six → List Bool

@@ -7,7 +7,7 @@ use lib.Dec.{leb}
 use lib.ListN.{getD}
 use borrow.Author.Tests.{le-leb, lt-leb}
 use Rattle.tables.specs.Tables.{Six}
-use Rattle.climb.specs.Choice.{pick}
+use Rattle.answers.specs.Choice.{pick}
 use Rattle.climb.specs.Sound.{depthIn, standOn, Unsound}
 use Rattle.climb.specs.Climbing.{climbTo, ancestorOf}
 use Rattle.queries.specs.Queries.{distanceIn, deeper, lcaIn, ancestorIn, jumpIn}
@@ -19,9 +19,9 @@ use Rattle.climb.specs.declared.places.Place.{Place}
 use Rattle.climb.specs.declared.places.Climb.{Climb}
 use Rattle.climb.specs.declared.places.Climbed.{Climbed}
 use Rattle.climb.specs.declared.places.Climbed.the-variants.{Met, Lost}
-use Rattle.climb.specs.declared.answers.Refusal.the-variants.{BadTable, TooFar}
-use Rattle.climb.specs.declared.answers.Answer.{Answer}
-use Rattle.climb.specs.declared.answers.Answer.the-variants.{Is, Refused}
+use Rattle.answers.specs.declared.answer.Refusal.the-variants.{BadTable}
+use Rattle.answers.specs.declared.answer.Answer.{Answer}
+use Rattle.answers.specs.declared.answer.Answer.the-variants.{Is, TooFar, Refused}
 use Rattle.climb.proofs.Climbs.{climb-off-u}
 
 module _ (n : ℕ) (t : Six) (u v : ℕ) where
@@ -135,7 +135,7 @@ ended-there n t {u} {v} {x} {y} a b = ap (λ (k : ℕ). endOf (climbTo n t k y))
 
 -- by way of an ancestor: `up` steps above u, and `all` steps from u to v
 abbrev jumpBy : ℕ → Six → ℕ → ℕ → (up all k : ℕ) → Answer
-jumpBy n t u v up all k = pick (leb k up) (ancestorIn n t u k) (pick (leb k all) (ancestorIn n t v (all - k)) (Refused TooFar))
+jumpBy n t u v up all k = pick (leb k up) (ancestorIn n t u k) (pick (leb k all) (ancestorIn n t v (all - k)) TooFar)
 
 module _ (n : ℕ) (t : Six) (u v k : ℕ) where
   pub jump-lost : climbTo n t u v ≡ Lost → Refused BadTable ≡ jumpIn n t u v k
@@ -155,7 +155,7 @@ module _ (n : ℕ) (t : Six) (u v k : ℕ) where
 
     module _ (h : du - w .depth < k) where
       -- beyond v
-      pub jump-far : du - w .depth + (dv - w .depth) < k → Refused TooFar ≡ jumpIn n t u v k
+      pub jump-far : du - w .depth + (dv - w .depth) < k → TooFar ≡ jumpIn n t u v k
       jump-far g = rw (lt-leb k (du - w .depth) h, lt-leb k (du - w .depth + (dv - w .depth)) g) at jump-met
 
       -- on the way down

@@ -1,23 +1,28 @@
 -- Laws of subtrees: the tests of a size, and what the queries on sizes answer by how their tests end.
 use Prim.Native.Nat.{ℕ, _+_, _-_, _≤_, _<_}
+use native.Mathlib.Omega.{arith}
 use mathlib.Core.Path.{_≡_, refl, sym, ap, _∙_, subst}
+use mathlib.Core.Logic.{inl, inr}
 use mathlib.Core.Bool.{Bool, true, false}
+use mathlib.Core.List.{[], _∷_}
+use types.Run.{OneOf}
+use denote.Enum.Declared.{tagOf}
 use lib.Dec.{eqb, leb, ltb}
 use borrow.Author.Tests.{le-leb, lt-leb, lt-ltb, le-ltb, eq-eqb, ne-eqb, leb-true}
 use Rattle.sums.specs.Sum.{at}
 use Rattle.tables.specs.Tables.{Six}
-use Rattle.climb.specs.Choice.{pick, both}
+use Rattle.answers.specs.Choice.{pick, both}
 use Rattle.climb.specs.Sound.{sound?, standOn, placeOf, On, Unsound}
 use Rattle.queries.specs.Queries.{ancestorIn, withoutChild, reRootedSize, sizeSound?}
 use Rattle.queries.specs.Inner.{counted?}
 use Rattle.climb.specs.declared.places.Place.{Place}
-use Rattle.climb.specs.declared.answers.Refusal.{Refusal}
-use Rattle.climb.specs.declared.answers.Refusal.the-variants.{BadTable}
-use Rattle.climb.specs.declared.answers.Answer.{Answer}
-use Rattle.climb.specs.declared.answers.Answer.the-variants.{Is, Refused}
-use Rattle.climb.specs.declared.answers.Interval.{Interval}
-use Rattle.climb.specs.declared.answers.Interval.the-variants.{Between, Refused as NoInterval}
-use Rattle.climb.proofs.Choices.{both-true}
+use Rattle.answers.specs.declared.answer.Refusal.the-variants.{BadTable}
+use Rattle.answers.specs.declared.answer.Answer.{Answer}
+use Rattle.answers.specs.declared.answer.Answer.the-variants.{Is, TooFar, Refused}
+use Rattle.answers.specs.declared.answer.Interval.{Interval}
+use Rattle.answers.specs.declared.answer.Interval.the-variants.{Between, Refused as NoInterval}
+use Rattle.answers.proofs.answer.Answer.{the-type}
+use Rattle.answers.proofs.Choices.{both-true}
 use Rattle.climb.proofs.Soundness.{stood-place, stood-vertex, stood-sound, unstood}
 
 pub counted-ends : (n i count : ℕ) → counted? n i count ≡ true → i + count ≤ n
@@ -53,9 +58,12 @@ module _ (n : ℕ) (t : Six) (y : ℕ) where
   pub left-over : counted? n (at (t .id) y) (at (t .size) y) ≡ true → Is (n - at (t .size) y) ≡ withoutChild n t (Is y)
   left-over e = rw e
 
--- a refusal of the lookup is handed on
-pub left-refused : (n : ℕ) (t : Six) {a : Answer} {r : Refusal} → a ≡ Refused r → a ≡ withoutChild n t a
-left-refused n t {a} {r} e = subst (λ (x : Answer). x ≡ withoutChild n t x) (sym e) (refl)
+-- an answer of the lookup that is no vertex is handed on: its tag is one of the other two
+pub left-refused : (n : ℕ) (t : Six) (a : Answer) → OneOf (1 ∷ 2 ∷ []) (tagOf the-type a) → a ≡ withoutChild n t a
+left-refused n t (Is x) (inl e) = absurd (let z : _≡_ {A = ℕ} 0 1 = e in omega arith)
+left-refused n t (Is x) (inr e) = absurd (let z : _≡_ {A = ℕ} 0 2 = e in omega arith)
+left-refused n t TooFar o = refl
+left-refused n t (Refused r) o = refl
 
 -- The re-rooted size, by the places a of the root and b of the vertex.
 

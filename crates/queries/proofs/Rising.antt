@@ -9,11 +9,11 @@ use lib.Dec.{eqb, leb, ltb}
 use lib.ListN.{length}
 use borrow.Author.Tests.{le-leb, lt-leb, eq-eqb, ne-eqb, ltb-true}
 use Rattle.sums.specs.Sum.{at}
-use Rattle.graph.specs.Limits.{noParent}
+use Rattle.answers.specs.Limits.{noParent}
 use Rattle.numbering.specs.Log.{log2}
 use Rattle.numbering.proofs.Logs.{log2-small, log2-half}
 use Rattle.tables.specs.Tables.{Six, six}
-use Rattle.climb.specs.Choice.{pick, both}
+use Rattle.answers.specs.Choice.{pick, both}
 use Rattle.climb.specs.Sound.{depthIn, idIn, standOn, Stood, On, Unsound}
 use Rattle.queries.specs.Queries.{entryAt, ancestorFrom, ancestorIn}
 use Rattle.climb.specs.Inner.{hangs?, Seat, ReachedOn, ReachedAbove}
@@ -22,11 +22,11 @@ use Rattle.queries.specs.Inner.{riseFrom, Risen, Onward, OneChain}
 use Rattle.queries.specs.declared.ancestors.Chained.{Chained}
 use Rattle.queries.specs.declared.ancestors.Chained.the-variants.{Done, Up}
 use Rattle.climb.specs.declared.places.Place.{Place}
-use Rattle.climb.specs.declared.answers.Refusal.{Refusal}
-use Rattle.climb.specs.declared.answers.Refusal.the-variants.{BadTable, TooFar}
-use Rattle.climb.specs.declared.answers.Answer.{Answer}
-use Rattle.climb.specs.declared.answers.Answer.the-variants.{Is, Refused}
-use Rattle.climb.proofs.Choices.{pick-true, pick-false, pick-same, both-true}
+use Rattle.answers.specs.declared.answer.Refusal.{Refusal}
+use Rattle.answers.specs.declared.answer.Refusal.the-variants.{BadTable}
+use Rattle.answers.specs.declared.answer.Answer.{Answer}
+use Rattle.answers.specs.declared.answer.Answer.the-variants.{Is, TooFar, Refused}
+use Rattle.answers.proofs.Choices.{pick-true, pick-false, pick-same, both-true}
 use Rattle.climb.proofs.Reaching.{reached-vertex, reached-seat, seat-stand, above-stand}
 
 -- the steps from a place to the head of its chain
@@ -56,7 +56,7 @@ module _ (n : ℕ) (t : Six) (p : Place) (k : ℕ) where
   from-here (suc m) h = rw (le-leb k (steps p) h, ancestorFrom)
 
   module _ (h : steps p < k) where
-    from-too-far : (chains : ℕ) → p .up ≡ noParent → Refused TooFar ≡ ancestorFrom chains n t p k
+    from-too-far : (chains : ℕ) → p .up ≡ noParent → TooFar ≡ ancestorFrom chains n t p k
     unfolding ancestorFrom
     from-too-far zero e = rw (lt-leb k (steps p) h, eq-eqb (p .up) noParent e, ancestorFrom)
     from-too-far (suc m) e = rw (lt-leb k (steps p) h, eq-eqb (p .up) noParent e, ancestorFrom)
@@ -94,7 +94,7 @@ module _ (P D H I O : List ℕ) (p : Place) (k : ℕ) (s : List ℕ) where
   module _ (h : steps p < k) where
     -- at a head without parent, which hangs exactly where it has depth 0
     module _ (e : p .up ≡ noParent) where
-      pub rise-too-far : (chains : ℕ) → p .top ≡ 0 → Refused TooFar ≡ riseFrom chains (length P) t p k
+      pub rise-too-far : (chains : ℕ) → p .top ≡ 0 → TooFar ≡ riseFrom chains (length P) t p k
       rise-too-far chains z =
           let on : hung p ≡ true = rw (eq-eqb (p .up) noParent e, eq-eqb (p .top) 0 z) in
           from-too-far (length P) t p k h chains e ∙ sym (pick-true (ancestorFrom chains (length P) t p k) (Refused BadTable) on)
@@ -187,6 +187,9 @@ Below n a = (y : ℕ) → a ≡ Is y → y < n
 below-refused : (n : ℕ) (r : Refusal) → Below n (Refused r)
 below-refused n r y e = absurd (let z : _≡_ {A = ℕ} 0 1 = cc in omega arith)
 
+below-far : (n : ℕ) → Below n TooFar
+below-far n y e = absurd (let z : _≡_ {A = ℕ} 0 1 = cc in omega arith)
+
 below-pick : (n : ℕ) (b : Bool) {a c : Answer} → Below n a → Below n c → Below n (pick b a c)
 below-pick n true p q = p
 below-pick n false p q = q
@@ -206,10 +209,10 @@ from-below : (chains n : ℕ) (t : Six) (p : Place) (k : ℕ) → Below n (ances
 unfolding ancestorFrom
 from-below zero n t p k =
     below-pick n (leb k (steps p)) (below-entry n t (p .id - k) (p .depth - k))
-    (below-pick n (eqb (p .up) noParent) (below-refused n TooFar) (below-refused n BadTable))
+    (below-pick n (eqb (p .up) noParent) (below-far n) (below-refused n BadTable))
 from-below (suc m) n t p k =
     below-pick n (leb k (steps p)) (below-entry n t (p .id - k) (p .depth - k))
-    (below-pick n (eqb (p .up) noParent) (below-refused n TooFar) (below-stood n (standOn n t (p .up)) (λ q. from-below m n t q (k - (steps p + 1)))))
+    (below-pick n (eqb (p .up) noParent) (below-far n) (below-stood n (standOn n t (p .up)) (λ q. from-below m n t q (k - (steps p + 1)))))
 
 pub found-below : (chains n : ℕ) (t : Six) (p : Place) (k : ℕ) → Below n (riseFrom chains n t p k)
 found-below chains n t p k = below-pick n (hangs? n (t .depth) (t .id) p) (from-below chains n t p k) (below-refused n BadTable)

@@ -7,14 +7,14 @@ use mathlib.Core.List.{List, [], _∷_}
 use lib.Dec.{leb}
 use lib.ListN.{length}
 use Rattle.tables.specs.Tables.{Six, six}
-use Rattle.climb.specs.Choice.{pick, both}
+use Rattle.answers.specs.Choice.{pick, both}
 use Rattle.climb.specs.Sound.{standOn, On}
 use Rattle.climb.specs.Climbing.{climbTo, ancestorOf}
 use Rattle.climb.specs.Inner.{Even, hangs?, Seat, ClimbsFrom}
 use Rattle.queries.specs.Queries.{entryAt, ancestorFrom, ancestorIn, jumpIn, withoutChild}
-use Rattle.climb.specs.declared.answers.Answer.{Answer}
-use Rattle.climb.specs.declared.answers.Answer.the-variants.{Is, Refused}
-use Rattle.climb.specs.declared.answers.Refusal.the-variants.{BadTable}
+use Rattle.answers.specs.declared.answer.Answer.{Answer}
+use Rattle.answers.specs.declared.answer.Answer.the-variants.{Is, Refused}
+use Rattle.answers.specs.declared.answer.Refusal.the-variants.{BadTable}
 use Rattle.queries.specs.declared.ancestors.Chained.{Chained}
 use Rattle.queries.specs.declared.ancestors.Chained.the-variants.{Done, Up}
 use Rattle.climb.specs.declared.places.Place.{Place}

@@ -4,20 +4,20 @@ use mathlib.Core.Bool.{Bool}
 use mathlib.Core.List.{[], _∷_}
 use lib.Dec.{eqb, leb, ltb}
 use Rattle.sums.specs.Sum.{at}
-use Rattle.graph.specs.Limits.{noParent}
+use Rattle.answers.specs.Limits.{noParent}
 use Rattle.numbering.specs.Log.{log2}
 use Rattle.tables.specs.Tables.{Six}
-use Rattle.climb.specs.Choice.{pick, both}
+use Rattle.answers.specs.Choice.{pick, both}
 use Rattle.climb.specs.Asked.{sizeOf, asked}
 use Rattle.climb.specs.Sound.{depthIn, idIn, sound?, standOn, On, Unsound}
 use Rattle.climb.specs.Climbing.{climbTo, ancestorOf}
 use Rattle.climb.specs.declared.places.Place.{Place}
 use Rattle.climb.specs.declared.places.Climbed.the-variants.{Met, Lost}
-use Rattle.climb.specs.declared.answers.Refusal.the-variants.{BadTable, TooFar}
-use Rattle.climb.specs.declared.answers.Answer.{Answer}
-use Rattle.climb.specs.declared.answers.Answer.the-variants.{Is, Refused}
-use Rattle.climb.specs.declared.answers.Interval.{Interval}
-use Rattle.climb.specs.declared.answers.Interval.the-variants.{Between, Refused as NoInterval}
+use Rattle.answers.specs.declared.answer.Refusal.the-variants.{BadTable}
+use Rattle.answers.specs.declared.answer.Answer.{Answer}
+use Rattle.answers.specs.declared.answer.Answer.the-variants.{Is, TooFar, Refused}
+use Rattle.answers.specs.declared.answer.Interval.{Interval}
+use Rattle.answers.specs.declared.answer.Interval.the-variants.{Between, Refused as NoInterval}
 
 -- vertex_count
 abbrev pub vertexCount : Six → Answer
@@ -80,10 +80,10 @@ entryAt n t i d =
 -- k steps up from a place: on its chain, or from its head's parent with fewer steps left; `chains` may still be left
 unfoldable pub ancestorFrom : ℕ → ℕ → Six → Place → ℕ → Answer
 ancestorFrom zero n t p k =
-    pick (leb k (p .depth - p .top)) (entryAt n t (p .id - k) (p .depth - k)) (pick (eqb (p .up) noParent) (Refused TooFar) (Refused BadTable))
+    pick (leb k (p .depth - p .top)) (entryAt n t (p .id - k) (p .depth - k)) (pick (eqb (p .up) noParent) TooFar (Refused BadTable))
 ancestorFrom (suc chains) n t p k =
     pick (leb k (p .depth - p .top)) (entryAt n t (p .id - k) (p .depth - k))
-    (pick (eqb (p .up) noParent) (Refused TooFar)
+    (pick (eqb (p .up) noParent) TooFar
     (elim (standOn n t (p .up)) [ On r ↦ ancestorFrom chains n t r (k - (p .depth - p .top + 1)) | Unsound ↦ Refused BadTable ]))
 
 abbrev pub ancestorIn : ℕ → Six → ℕ → ℕ → Answer
@@ -100,7 +100,7 @@ jumpIn n t u v k =
           pick (leb k (depthIn t u - ancestorOf c .depth)) (ancestorIn n t u k)
           (pick (leb k (depthIn t u - ancestorOf c .depth + (depthIn t v - ancestorOf c .depth)))
           (ancestorIn n t v (depthIn t u - ancestorOf c .depth + (depthIn t v - ancestorOf c .depth) - k))
-          (Refused TooFar))
+          TooFar)
       | Lost ↦ Refused BadTable
     ]
 
@@ -110,6 +110,7 @@ jump t u v k = asked t (u ∷ v ∷ []) Refused (jumpIn (sizeOf t) t u v k)
 -- the vertices that are not below the child towards r
 abbrev pub withoutChild : ℕ → Six → Answer → Answer
 withoutChild n t (Is y) = pick (sizeSound? n t y) (Is (n - at (t .size) y)) (Refused BadTable)
+withoutChild n t TooFar = TooFar
 withoutChild n t (Refused r) = Refused r
 
 -- re-rooted size: all for r itself, v's own size where r lies outside v's range, else all but the subtree of the child towards r; "a re-rooted size

@@ -1,13 +1,13 @@
 // Ancestors: k steps up from a place, one chain a call.
-use climb::answers::Answer;
-use climb::answers::Refusal;
-use climb::asked::Verdict;
+use answers::answer::Answer;
+use answers::answer::Refusal;
+use answers::asked::Verdict;
+use answers::limits::NO_PARENT;
 use climb::asked::asked;
 use climb::places::Place;
 use climb::sound::hangs;
 use climb::sound::reach;
 use climb::sound::reach_above;
-use graph::codes::NO_PARENT;
 ghost use mathlib.Core.Path.{_≡_};
 ghost use Rattle.numbering.specs.Log.{log2};
 ghost use Rattle.tables.specs.Tables.{lent};
@@ -65,7 +65,7 @@ fn one_chain(
         if p.top != 0 {
             return Chained::Done(Answer::Refused(Refusal::BadTable));
         }
-        return Chained::Done(Answer::Refused(Refusal::TooFar));
+        return Chained::Done(Answer::TooFar);
     }
     if room < 2 {
         return Chained::Done(Answer::Refused(Refusal::BadTable));

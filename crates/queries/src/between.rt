@@ -1,8 +1,8 @@
 // Queries that climb: the distance, the LCA and jumps. Each vertex that is asked about is reached once, and its place is handed on.
 use crate::ancestors::ancestor_from;
-use climb::answers::Answer;
-use climb::answers::Refusal;
-use climb::asked::Verdict;
+use answers::answer::Answer;
+use answers::answer::Refusal;
+use answers::asked::Verdict;
 use climb::asked::asked;
 use climb::climbing::climb_to_lca;
 use climb::places::Climbed;
@@ -166,7 +166,7 @@ fn jump_from(
         return Answer::Is(x);
     }
     if all < k {
-        return Answer::Refused(Refusal::TooFar);
+        return Answer::TooFar;
     }
     let found = ancestor_from(parent, depth, head, id, order, n, q, all - k);
     let Answer::Is(x) = found else {

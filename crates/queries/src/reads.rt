@@ -1,7 +1,7 @@
 // Queries that read one vertex.
-use climb::answers::Answer;
-use climb::answers::Refusal;
-use climb::asked::Verdict;
+use answers::answer::Answer;
+use answers::answer::Refusal;
+use answers::asked::Verdict;
 use climb::asked::asked;
 use climb::sound::stand;
 ghost use mathlib.Core.Path.{_≡_};

@@ -1,9 +1,9 @@
 // Subtrees: their numbers and sizes.
 use crate::ancestors::ancestor_from;
-use climb::answers::Answer;
-use climb::answers::Interval;
-use climb::answers::Refusal;
-use climb::asked::Verdict;
+use answers::answer::Answer;
+use answers::answer::Interval;
+use answers::answer::Refusal;
+use answers::asked::Verdict;
 use climb::asked::asked;
 use climb::places::Place;
 use climb::sound::stand;

@@ -13,7 +13,7 @@ use Rattle.ranges.specs.Calls.{Answered, refused, listed, rangesOf}
 use Rattle.ranges.specs.Inner.{ListedAs}
 use Rattle.ranges.specs.declared.kinds.Kind.{Kind}
 use Rattle.ranges.specs.declared.kinds.Kind.the-variants.{Vertices, Edges, Both}
-use Rattle.ranges.specs.declared.kinds.Listed.{Listed}
+use Rattle.answers.specs.declared.answer.Listed.{Listed}
 use Rattle.ranges.specs.declared.kinds.PathRange.{PathRange}
 use Rattle.treefile.specs.Report.{numberText, listText, answerText}
 use Rattle.treefile.specs.Flat.{Short, ShortLists, listedText, spokenOf, numbersOf, ListRoom}

@@ -3,9 +3,9 @@ use Prim.Native.Nat.{ℕ}
 use lib.Dec.{eqb}
 use mathlib.Core.List.{List}
 use Rattle.tables.specs.Tables.{Six}
-use Rattle.climb.specs.Choice.{pick}
+use Rattle.answers.specs.Choice.{pick}
 use Rattle.queries.specs.Queries.{distance, lca, kthAncestor, jump, subtreeSize}
-use Rattle.climb.specs.declared.answers.Answer.{Answer}
+use Rattle.answers.specs.declared.answer.Answer.{Answer}
 use Rattle.ranges.specs.Calls.{rangesOf}
 use Rattle.ranges.specs.declared.kinds.Kind.{Kind}
 use Rattle.ranges.specs.declared.kinds.Kind.the-variants.{Vertices, Edges, Both}

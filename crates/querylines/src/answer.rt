@@ -1,11 +1,11 @@
 // The answer to one query, as text.
-use climb::answers::Answer;
+use answers::answer::Answer;
+use answers::answer::Listed;
 use queries::ancestors::kth_ancestor;
 use queries::between::distance;
 use queries::between::jump;
 use queries::between::lca;
 use queries::sizes::subtree_size;
-use ranges::kinds::Listed;
 use ranges::lists::edge_path_ranges;
 use ranges::lists::vertex_edge_path_ranges;
 use ranges::lists::vertex_path_ranges;

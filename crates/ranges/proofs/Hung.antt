@@ -4,17 +4,17 @@ use native.Mathlib.Omega.{arith}
 use mathlib.Core.Path.{_≡_, sym, _∙_, subst}
 use mathlib.Core.Bool.{Bool, true, false}
 use lib.Dec.{ltb}
-use Rattle.graph.specs.Limits.{noParent}
+use Rattle.answers.specs.Limits.{noParent}
 use Rattle.numbering.specs.Log.{log2}
 use Rattle.tables.specs.Tables.{Six}
-use Rattle.climb.specs.Choice.{pick}
+use Rattle.answers.specs.Choice.{pick}
 use Rattle.climb.specs.Asked.{sizeOf}
 use Rattle.climb.specs.Sound.{On, Unsound, standOn}
 use Rattle.climb.specs.Climbing.{leaveChain}
 use Rattle.climb.specs.Inner.{hangsFrom?, hangs?, ReachedOn, Seat, Left}
 use Rattle.climb.specs.declared.places.Place.{Place}
 use Rattle.climb.specs.declared.places.Reached.{Reached}
-use Rattle.climb.proofs.Choices.{pick-true, pick-false, both-true}
+use Rattle.answers.proofs.Choices.{pick-true, pick-false, both-true}
 use Rattle.climb.proofs.Soundness.{hangs-from}
 use Rattle.climb.proofs.Reaching.{reached-vertex, reached-seat, seat-stand, left-stand}
 

@@ -5,20 +5,20 @@ use mathlib.Core.Path.{_≡_, refl, sym, ap, _∙_, subst}
 use mathlib.Core.List.{List, [], _∷_, _++_}
 use lib.ListN.{length, drop}
 use borrow.Author.Tests.{le-leb, lt-leb}
-use Rattle.graph.specs.Limits.{maxVertices}
+use Rattle.answers.specs.Limits.{maxVertices}
 use Rattle.tables.specs.Tables.{Six}
 use Rattle.climb.specs.Asked.{sizeOf, asked}
 use Rattle.climb.specs.Climbing.{climbTo}
-use Rattle.climb.specs.declared.answers.Refusal.{Refusal}
-use Rattle.climb.specs.declared.answers.Refusal.the-variants.{NoRoom, BadTable}
-use Rattle.climb.specs.declared.asked.Verdict.the-variants.{Ready, Refused as Stopped}
+use Rattle.answers.specs.declared.answer.Refusal.{Refusal}
+use Rattle.answers.specs.declared.answer.Refusal.the-variants.{NoRoom, BadTable}
+use Rattle.answers.specs.declared.asked.Verdict.the-variants.{Ready, Refused as Stopped}
 use Rattle.climb.specs.declared.places.Climb.{Climb}
 use Rattle.climb.specs.declared.places.Climbed.{Climbed}
 use Rattle.climb.specs.declared.places.Climbed.the-variants.{Met, Lost}
-use Rattle.climb.proofs.Passed.{asked-answer, verdict-passed, verdict-refused, lengths, first-below, others}
+use Rattle.climb.proofs.Passed.{answered, verdict-passed, verdict-refused, lengths, first-below, others}
 use Rattle.ranges.specs.declared.kinds.PathRange.{PathRange}
 use Rattle.ranges.specs.declared.kinds.Kind.{Kind}
-use Rattle.ranges.specs.declared.kinds.Listed.the-variants.{Count, Refused}
+use Rattle.answers.specs.declared.answer.Listed.the-variants.{Count, Refused}
 use Rattle.ranges.specs.declared.chains.Last.{Last}
 use Rattle.ranges.specs.declared.chains.Last.the-variants.{One, Empty}
 use Rattle.ranges.specs.Ranges.{found, lastChain, pathRanges}
@@ -94,7 +94,7 @@ module _ (kind : Kind) (t : Six) (u v : ℕ) where
     unfolding rangesOf
     ready-ranges =
         let p = verdict-passed t (u ∷ v ∷ []) ready in
-        asked-answer t (u ∷ v ∷ []) refused (fromFound (pathRanges kind (sizeOf t) t u v)) (p .tables) (p .vertices)
+        answered p refused refl
 
     -- the climb is lost
     pub ranges-lost : (w : List ℕ) → climbTo (sizeOf t) t u v ≡ Lost → ListedAs (rangesOf kind t u v) w w (Refused BadTable)

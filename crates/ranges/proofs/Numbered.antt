@@ -7,8 +7,8 @@ use mathlib.Core.List.{[], _∷_}
 use lib.Dec.{ltb}
 use native.Mathlib.Decide.{decLt}
 use borrow.Author.Tests.{lt-ltb, le-ltb}
-use Rattle.graph.proofs.Limits.{vertices-small}
-use Rattle.climb.specs.Choice.{pick}
+use Rattle.answers.proofs.Bounds.{vertices-small}
+use Rattle.answers.specs.Choice.{pick}
 use Rattle.climb.specs.declared.places.Climb.{Climb}
 use Rattle.ranges.specs.declared.kinds.Direction.{Direction}
 use Rattle.ranges.specs.declared.kinds.Direction.the-variants.{Forward, Reversed}

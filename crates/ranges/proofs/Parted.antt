@@ -7,11 +7,12 @@ use mathlib.Core.List.{List, []}
 use lib.Dec.{eqb, leb, ltb}
 use lib.ListN.{length, take, drop}
 use borrow.Author.Tests.{ltb-true, leb-true, eqb-true}
-use Rattle.climb.specs.Choice.{both}
-use Rattle.climb.proofs.Choices.{both-true}
+use Rattle.answers.specs.Choice.{both}
+use Rattle.answers.proofs.Choices.{both-true}
 use Rattle.ranges.specs.declared.kinds.Direction.{Direction}
 use Rattle.ranges.specs.declared.kinds.Direction.the-variants.{Forward, Reversed}
-use Rattle.ranges.specs.Parts.{maxStore, named?, partIn, rulePart}
+use Rattle.answers.specs.Limits.{maxStore}
+use Rattle.ranges.specs.Parts.{named?, partIn, rulePart}
 
 -- a range of two stores of m and k entries
 pub record Named (m k l r : ℕ) : Type 0 where

@@ -6,7 +6,7 @@ use mathlib.Core.Path.{_≡_, refl, sym, ap, _∙_, subst}
 use mathlib.Core.Bool.{Bool, true, false}
 use mathlib.Core.List.{List, [], _∷_, _++_}
 use lib.ListN.{length, drop, length-append}
-use Rattle.graph.specs.Limits.{maxVertices}
+use Rattle.answers.specs.Limits.{maxVertices}
 use Rattle.numbering.specs.Log.{log2}
 use Rattle.tables.specs.Tables.{Six}
 use Rattle.climb.specs.Asked.{sizeOf}

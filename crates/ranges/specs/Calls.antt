@@ -3,22 +3,21 @@ use Prim.Native.Nat.{ℕ, _+_, _*_}
 use mathlib.Core.List.{List, [], _∷_, _++_}
 use lib.Dec.{leb}
 use lib.ListN.{length, drop}
-use Rattle.graph.specs.Limits.{maxVertices}
+use Rattle.answers.specs.Limits.{maxVertices}
 use Rattle.numbering.specs.Log.{log2}
 use Rattle.tables.specs.Tables.{Six}
-use Rattle.climb.specs.Choice.{pick, both}
+use Rattle.answers.specs.Choice.{pick, both}
 use Rattle.climb.specs.Asked.{sizeOf, asked}
-use Rattle.climb.specs.Answers.{refusalCode}
-use Rattle.climb.specs.declared.answers.Refusal.{Refusal}
-use Rattle.climb.specs.declared.answers.Refusal.the-variants.{BadSize, NoRoom, BadTable}
-use Rattle.climb.specs.declared.answers.Answer.{Answer}
-use Rattle.climb.specs.declared.answers.Answer.the-variants.{Is, Refused as NoNumber}
+use Rattle.answers.specs.declared.answer.Refusal.{Refusal}
+use Rattle.answers.specs.declared.answer.Refusal.the-variants.{BadSize, NoRoom, BadTable}
+use Rattle.answers.specs.declared.answer.Answer.{Answer}
+use Rattle.answers.specs.declared.answer.Answer.the-variants.{Is, Refused as NoNumber}
 use Rattle.ranges.specs.declared.kinds.Direction.{Direction}
 use Rattle.ranges.specs.declared.kinds.Direction.the-variants.{Forward, Reversed}
 use Rattle.ranges.specs.declared.kinds.PathRange.{PathRange}
 use Rattle.ranges.specs.declared.kinds.Kind.{Kind}
-use Rattle.ranges.specs.declared.kinds.Listed.{Listed}
-use Rattle.ranges.specs.declared.kinds.Listed.the-variants.{Count, Refused}
+use Rattle.answers.specs.declared.answer.Listed.{Listed}
+use Rattle.answers.specs.declared.answer.Listed.the-variants.{Count, Refused}
 use Rattle.ranges.specs.Ranges.{Found, lost, found, pathRanges}
 
 -- the ranges of a path, or the refusal that comes before the test of room
@@ -51,15 +50,6 @@ roomAnswer (listed l) room = pick (leb (3 * length l) room) (Count (length l)) (
 abbrev pub roomList : Answered → List ℕ → List ℕ
 roomList (refused x) lent = lent
 roomList (listed l) lent = pick (leb (3 * length l) (length lent)) (flat l ++ drop (3 * length l) lent) lent
-
--- the number and the values that an answer stands for
-abbrev pub listedCode : Listed → ℕ
-listedCode (Count k) = 0
-listedCode (Refused x) = refusalCode x
-
-abbrev pub listedValues : Listed → List ℕ
-listedValues (Count k) = k ∷ []
-listedValues (Refused x) = []
 
 -- "Range room: 2·floor(log2 n)+1 is always enough, and a call returns that number for n from 1 to 32,768, else refusal 1."
 abbrev pub rangeRoom : ℕ → Answer

@@ -4,7 +4,7 @@ use mathlib.Core.Path.{_≡_}
 use mathlib.Core.List.{List, [], _∷_, _++_}
 use lib.ListN.{length, drop}
 use lib.Seq.{sets}
-use Rattle.graph.specs.Limits.{maxVertices}
+use Rattle.answers.specs.Limits.{maxVertices}
 use Rattle.tables.specs.Tables.{Six, six}
 use Rattle.climb.specs.Climbing.{climbTo}
 use Rattle.climb.specs.Inner.{Even}
@@ -12,7 +12,7 @@ use Rattle.climb.specs.declared.places.Climb.{Climb}
 use Rattle.climb.specs.declared.places.Climbed.{Climbed}
 use Rattle.ranges.specs.declared.kinds.PathRange.{PathRange}
 use Rattle.ranges.specs.declared.kinds.Kind.{Kind}
-use Rattle.ranges.specs.declared.kinds.Listed.{Listed}
+use Rattle.answers.specs.declared.answer.Listed.{Listed}
 use Rattle.ranges.specs.declared.chains.Last.{Last}
 use Rattle.ranges.specs.declared.chains.Last.the-variants.{One, Empty}
 use Rattle.ranges.specs.Ranges.{found, pathRanges}

@@ -5,13 +5,10 @@ use mathlib.Core.Bool.{Bool}
 use mathlib.Core.List.{List, []}
 use lib.Dec.{eqb, leb, ltb}
 use lib.ListN.{length, take, drop}
-use Rattle.climb.specs.Choice.{pick, both}
+use Rattle.answers.specs.Choice.{pick, both}
+use Rattle.answers.specs.Limits.{maxStore}
 use Rattle.ranges.specs.declared.kinds.Direction.{Direction}
 use Rattle.ranges.specs.declared.kinds.Direction.the-variants.{Forward, Reversed}
-
--- the most entries that a store may have
-unfoldable pub maxStore : ℕ
-maxStore = 32_768
 
 abbrev pub partIn : Direction → List ℕ → List ℕ → ℕ → ℕ → List ℕ
 partIn Forward first second l r = take (r - l) (drop l first)

@@ -5,7 +5,7 @@ use mathlib.Core.List.{List, [], _∷_, _++_}
 use lib.Dec.{eqb, leb, ltb}
 use Rattle.numbering.specs.Log.{log2}
 use Rattle.tables.specs.Tables.{Six}
-use Rattle.climb.specs.Choice.{pick}
+use Rattle.answers.specs.Choice.{pick}
 use Rattle.climb.specs.Sound.{standOn, On, Unsound}
 use Rattle.climb.specs.Climbing.{leaveChain, uMoved, vMoved, climbStart}
 use Rattle.climb.specs.declared.places.Climb.{Climb}

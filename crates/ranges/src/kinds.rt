@@ -19,9 +19,3 @@ pub enum Kind {
     Edges,
     Both,
 }
-
-// How many ranges were written.
-pub enum Listed {
-    Count(usize),
-    Refused(climb::answers::Refusal),
-}

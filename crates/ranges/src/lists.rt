@@ -2,10 +2,10 @@
 use crate::chains::last_chain;
 use crate::chains::last_count;
 use crate::kinds::Kind;
-use crate::kinds::Listed;
 use crate::writes::write_path;
-use climb::answers::Refusal;
-use climb::asked::Verdict;
+use answers::answer::Listed;
+use answers::answer::Refusal;
+use answers::asked::Verdict;
 use climb::asked::asked;
 use climb::climbing::climb_to_lca;
 use climb::places::Climbed;

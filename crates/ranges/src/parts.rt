@@ -1,11 +1,9 @@
 // Rule parts: the part of two lent stores that a range names.
 use crate::kinds::Direction;
+use answers::limits::MAX_STORE;
 ghost use mathlib.Core.Path.{_≡_};
 ghost use mathlib.Core.List.{[]};
 ghost use Rattle.ranges.specs.Parts.{named?, rulePart};
-
-// The most entries that a store may have.
-pub const MAX_STORE: usize = 32_768;
 
 // The empty part of a store.
 fn empty(store: &[u32]) -> &[u32]

@@ -1,7 +1,7 @@
 // How many ranges a path can have.
-use climb::answers::Answer;
-use climb::answers::Refusal;
-use graph::codes::MAX_VERTICES;
+use answers::answer::Answer;
+use answers::answer::Refusal;
+use answers::limits::MAX_VERTICES;
 ghost use mathlib.Core.Path.{_≡_};
 ghost use Rattle.numbering.specs.Log.{log2};
 ghost use Rattle.ranges.specs.Calls.{rangeRoom};

@@ -9,13 +9,14 @@ use borrow.Author.Tests.{lt-ltb, le-leb, eq-eqb}
 use Rattle.sums.specs.Sum.{at}
 use Rattle.paths.specs.Walk.{Stands, Simple}
 use Rattle.paths.proofs.Unique.{path-unique}
-use Rattle.graph.specs.Limits.{maxVertices}
+use Rattle.answers.specs.Limits.{maxVertices, maxStore}
+use Rattle.answers.proofs.Bounds.{vertices-stored}
 use Rattle.numbering.proofs.Readings.{map-reverse}
 use Rattle.tables.specs.Tables.{Six}
 use Rattle.pathlaws.specs.Given.{Given, pathIn}
 use Rattle.ranges.specs.Ranges.{found, pathRanges}
 use Rattle.ranges.specs.Readings.{rising, readIn, readRange, reading}
-use Rattle.ranges.specs.Parts.{maxStore, named?, partIn, rulePart}
+use Rattle.ranges.specs.Parts.{named?, partIn, rulePart}
 use Rattle.ranges.specs.declared.kinds.Direction.{Direction}
 use Rattle.ranges.specs.declared.kinds.Direction.the-variants.{Forward, Reversed}
 use Rattle.ranges.specs.declared.kinds.PathRange.{PathRange}
@@ -85,8 +86,7 @@ parts-read s (r ∷ l) m w = rw (rule-part-reads s r m (w .0) (w .1), parts-read
 
 -- a store with one entry to a vertex is not too long
 store-fits : (n : ℕ) → n ≤ maxVertices → n ≤ maxStore
-unfolding maxVertices maxStore
-store-fits n h = h
+store-fits n h = let s = vertices-stored in omega arith
 
 module _ {n root : ℕ} {A : ℕ → List ℕ} {t : Six} {kids : ℕ → List ℕ} (G : Given n A root t kids) where
   -- the rule parts of the vertex ranges from u to v, joined, are the entries of the vertices of the path in order

@@ -1,20 +1,19 @@
--- On any tables a path has at most 31 ranges: each side leaves at most floor(log2 n) chains, and the last chain has one range or none.
-use Prim.Native.Nat.{ℕ, _+_, _*_, _≤_, _^_}
+-- On any tables a path has at most `mostRanges` ranges: each side leaves at most floor(log2 n) chains, and the last chain has one range or none.
+use Prim.Native.Nat.{ℕ, _+_, _*_, _≤_}
 use native.Mathlib.Omega.{arith}
 use native.Mathlib.Decide.{decLt}
 use mathlib.Core.Path.{_≡_, refl, sym, ap, _∙_}
 use mathlib.Core.List.{List, [], _∷_}
 use lib.ListN.{length}
-use lib.Pow.{pow-mono}
 use borrow.Author.Tests.{lt-ltb, le-ltb}
-use Rattle.graph.specs.Limits.{maxVertices}
+use Rattle.answers.specs.Limits.{mostRanges}
 use Rattle.numbering.specs.Log.{log2}
-use Rattle.numbering.proofs.Logs.{log2-low}
+use Rattle.answers.proofs.Bounds.{chains-few}
 use Rattle.tables.specs.Tables.{Six}
 use Rattle.climb.specs.Asked.{sizeOf, asked}
 use Rattle.climb.specs.Climbing.{climbTo}
-use Rattle.climb.specs.declared.asked.Verdict.{Verdict}
-use Rattle.climb.specs.declared.asked.Verdict.the-variants.{Ready, Refused as Stopped}
+use Rattle.answers.specs.declared.asked.Verdict.{Verdict}
+use Rattle.answers.specs.declared.asked.Verdict.the-variants.{Ready, Refused as Stopped}
 use Rattle.climb.specs.declared.places.Climb.{Climb}
 use Rattle.climb.specs.declared.places.Climbed.{Climbed}
 use Rattle.climb.specs.declared.places.Climbed.the-variants.{Met, Lost}
@@ -27,18 +26,6 @@ use Rattle.ranges.specs.Calls.{refused, listed, fromFound, rangesOf}
 use Rattle.ranges.proofs.Looks.{Agree, agree}
 use Rattle.ranges.proofs.Listing.{ready-some, ready-small, ready-ranges}
 use Rattle.readings.proofs.Bounds.{last-one}
-use Rattle.records.specs.Inner.{mostRanges}
-
--- the largest number of vertices can be halved fifteen times
-log2-few : (n : ℕ) → 1 ≤ n → n ≤ maxVertices → log2 n ≤ 15
-unfolding maxVertices
-log2-few n some small = elim (decLt 15 (log2 n)) [
-  | yes h ↦
-      let l = log2-low n some in
-      let p : 2 ^ 16 ≤ 2 ^ log2 n = pow-mono {i = 16} {j = log2 n} (omega arith) in
-      absurd (omega arith)
-  | no h ↦ omega arith
-]
 
 -- the last chain of a climb has at most one range
 last-chain-one : (kind : Kind) (c : Climb) → length (lastChain kind c) ≤ 1
@@ -63,11 +50,10 @@ found-few kind n D (Met d) f a l e =
 module _ (kind : Kind) (t : Six) (u v : ℕ) where
   -- the climb's ranges are few
   climb-few : asked t (u ∷ v ∷ []) Stopped Ready ≡ Ready → (l : List PathRange) → pathRanges kind (sizeOf t) t u v ≡ found l → length l ≤ mostRanges
-  unfolding mostRanges
   climb-few ready l e =
       let a = agree kind (sizeOf t) t u v in
       let f = found-few kind (sizeOf t) (t .depth) (climbTo (sizeOf t) t u v) (pathRanges kind (sizeOf t) t u v) a l e in
-      let g = log2-few (sizeOf t) (ready-some kind t u v ready) (ready-small kind t u v ready) in
+      let g = chains-few (sizeOf t) (ready-some kind t u v ready) (ready-small kind t u v ready) in
       omega arith
 
   -- whichever way the tests and the climb go

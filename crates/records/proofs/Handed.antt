@@ -28,10 +28,10 @@ use Rattle.tables.specs.Tables.{six}
 use Rattle.ranges.specs.Calls.{Answered, rangesOf}
 use Rattle.ranges.specs.declared.kinds.Kind.{Kind}
 use Rattle.ranges.specs.declared.kinds.PathRange.{PathRange}
-use Rattle.ranges.specs.declared.kinds.Listed.{Listed}
+use Rattle.answers.specs.declared.answer.Listed.{Listed}
 use Rattle.ranges.proofs.kinds.PathRange as R
 use Rattle.ranges.proofs.kinds.PathRange.Laws as R′
-use Rattle.ranges.proofs.kinds.Listed.Laws as L′
+use Rattle.answers.proofs.answer.Listed.Laws as L′
 use Rattle.records.specs.declared.plans.Plan.{Plan}
 use Rattle.records.specs.Records.{RecordedAs}
 use Rattle.records.specs.Inner.{Planned, Copied}

@@ -37,10 +37,10 @@ use denote.Exit.{yes}
 use denote.Signature.{plain}
 use Rattle.ranges.specs.declared.kinds.Kind.{Kind}
 use Rattle.ranges.specs.declared.kinds.PathRange.{PathRange}
-use Rattle.ranges.specs.declared.kinds.Listed.{Listed}
+use Rattle.answers.specs.declared.answer.Listed.{Listed}
 use Rattle.ranges.proofs.kinds.PathRange as R
-use Rattle.ranges.proofs.kinds.Listed as L
-use Rattle.ranges.proofs.kinds.Listed.Laws as L′
+use Rattle.answers.proofs.answer.Listed as L
+use Rattle.answers.proofs.answer.Listed.Laws as L′
 use Rattle.records.specs.declared.plans.Plan.{Plan}
 use Rattle.records.specs.Records.{RecordedAs}
 use Rattle.records.specs.Inner.{Planned, Copies, Copied}

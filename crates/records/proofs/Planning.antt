@@ -6,23 +6,24 @@ use mathlib.Core.Path.{_≡_, refl, sym, ap, _∙_, subst}
 use mathlib.Core.List.{List, _++_}
 use lib.ListN.{length, drop}
 use borrow.Author.Tests.{le-leb, lt-leb}
-use Rattle.climb.specs.declared.answers.Refusal.the-variants.{NoRoom}
-use Rattle.climb.proofs.Choices.{pick-true, pick-false}
+use Rattle.answers.specs.declared.answer.Refusal.the-variants.{NoRoom}
+use Rattle.answers.proofs.Choices.{pick-true, pick-false}
 use Rattle.tables.specs.Tables.{Six}
 use Rattle.ranges.specs.declared.kinds.Direction.the-variants.{Forward, Reversed}
 use Rattle.ranges.specs.declared.kinds.PathRange.{PathRange}
 use Rattle.ranges.specs.declared.kinds.Kind.{Kind}
-use Rattle.ranges.specs.declared.kinds.Listed.{Listed}
-use Rattle.ranges.specs.declared.kinds.Listed.the-variants.{Count, Refused}
+use Rattle.answers.specs.declared.answer.Listed.{Listed}
+use Rattle.answers.specs.declared.answer.Listed.the-variants.{Count, Refused}
 use Rattle.ranges.specs.Calls.{Answered, refused, listed, rangesOf, flat}
 use Rattle.ranges.specs.Inner.{ListedAs}
-use Rattle.records.specs.Inner.{mostRanges, directionOf, copied, plan, planOf, Planned}
+use Rattle.answers.specs.Limits.{mostChains, mostRanges}
+use Rattle.records.specs.Inner.{directionOf, copied, plan, planOf, Planned}
 use Rattle.records.proofs.Few.{ranges-few}
 use Rattle.records.proofs.Copying.{copied-all}
 
 -- all ranges fit into an array of three numbers to each
 pub most : 3 * mostRanges ≡ 93
-unfolding mostRanges
+unfolding mostChains
 most = omega arith
 
 -- 0 is Forward

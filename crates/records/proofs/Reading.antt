@@ -9,8 +9,8 @@ use Rattle.sums.specs.Sum.{at}
 use Rattle.paths.specs.Walk.{Stands, Simple}
 use Rattle.numbering.specs.Log.{log2}
 use Rattle.tables.specs.Tables.{Six}
-use Rattle.climb.specs.declared.answers.Refusal.the-variants.{NoRoom}
-use Rattle.climb.proofs.Choices.{pick-true}
+use Rattle.answers.specs.declared.answer.Refusal.the-variants.{NoRoom}
+use Rattle.answers.proofs.Choices.{pick-true}
 use Rattle.pathlaws.specs.Given.{Given}
 use Rattle.pathlaws.proofs.Standing.{answered}
 use Rattle.ranges.specs.Ranges.{found, pathRanges}
@@ -18,8 +18,8 @@ use Rattle.ranges.specs.Calls.{Answered, refused, listed, fromFound, rangesOf}
 use Rattle.ranges.specs.Readings.{reading}
 use Rattle.ranges.specs.declared.kinds.PathRange.{PathRange}
 use Rattle.ranges.specs.declared.kinds.Kind.{Kind}
-use Rattle.ranges.specs.declared.kinds.Listed.{Listed}
-use Rattle.ranges.specs.declared.kinds.Listed.the-variants.{Count, Refused}
+use Rattle.answers.specs.declared.answer.Listed.{Listed}
+use Rattle.answers.specs.declared.answer.Listed.the-variants.{Count, Refused}
 use Rattle.readings.specs.Numbers.{numbersOf}
 use Rattle.readings.proofs.Found.{ranges-found}
 use Rattle.readings.proofs.Bounds.{ranges-room}

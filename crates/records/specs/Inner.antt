@@ -4,20 +4,17 @@ use mathlib.Core.Path.{_≡_}
 use mathlib.Core.List.{List}
 use lib.Dec.{leb}
 use lib.ListN.{length, getD, set}
-use Rattle.climb.specs.Choice.{pick}
-use Rattle.climb.specs.declared.answers.Refusal.the-variants.{NoRoom}
+use Rattle.answers.specs.Choice.{pick}
+use Rattle.answers.specs.Limits.{mostRanges}
+use Rattle.answers.specs.declared.answer.Refusal.the-variants.{NoRoom}
 use Rattle.ranges.specs.declared.kinds.Direction.{Direction}
 use Rattle.ranges.specs.declared.kinds.Direction.the-variants.{Forward, Reversed}
 use Rattle.ranges.specs.declared.kinds.PathRange.{PathRange}
-use Rattle.ranges.specs.declared.kinds.Listed.{Listed}
-use Rattle.ranges.specs.declared.kinds.Listed.the-variants.{Count, Refused}
+use Rattle.answers.specs.declared.answer.Listed.{Listed}
+use Rattle.answers.specs.declared.answer.Listed.the-variants.{Count, Refused}
 use Rattle.ranges.specs.Calls.{Answered}
 use Rattle.records.specs.declared.plans.Plan.{Plan}
 use Rattle.records.specs.Records.{recordAnswer, recordList}
-
--- the most ranges of a path: range room at the largest number of vertices
-unfoldable pub mostRanges : ℕ
-mostRanges = 31
 
 -- the direction of a number: 0 for Forward
 abbrev pub directionOf : ℕ → Direction

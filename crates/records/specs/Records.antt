@@ -4,11 +4,11 @@ use mathlib.Core.Path.{_≡_}
 use mathlib.Core.List.{List, _++_}
 use lib.Dec.{leb}
 use lib.ListN.{length, drop}
-use Rattle.climb.specs.Choice.{pick}
-use Rattle.climb.specs.declared.answers.Refusal.the-variants.{NoRoom}
+use Rattle.answers.specs.Choice.{pick}
+use Rattle.answers.specs.declared.answer.Refusal.the-variants.{NoRoom}
 use Rattle.ranges.specs.declared.kinds.PathRange.{PathRange}
-use Rattle.ranges.specs.declared.kinds.Listed.{Listed}
-use Rattle.ranges.specs.declared.kinds.Listed.the-variants.{Count, Refused}
+use Rattle.answers.specs.declared.answer.Listed.{Listed}
+use Rattle.answers.specs.declared.answer.Listed.the-variants.{Count, Refused}
 use Rattle.ranges.specs.Calls.{Answered, refused, listed}
 
 -- "A query tests 1, then 4; 9 and 10 come as the climb meets them; 2 for lists is last"

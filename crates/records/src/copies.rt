@@ -1,7 +1,7 @@
 // Copying records into a lent slice.
 use crate::plans::Plan;
 use crate::plans::range_at;
-use ranges::kinds::Listed;
+use answers::answer::Listed;
 use ranges::kinds::PathRange;
 ghost use Rattle.records.specs.Inner.{Copies, Copied};
 

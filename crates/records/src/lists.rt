@@ -4,7 +4,7 @@ use crate::copies::copy_records;
 use crate::plans::edge_plan;
 use crate::plans::vertex_edge_plan;
 use crate::plans::vertex_plan;
-use ranges::kinds::Listed;
+use answers::answer::Listed;
 use ranges::kinds::PathRange;
 ghost use Rattle.tables.specs.Tables.{lent};
 ghost use Rattle.ranges.specs.Calls.{rangesOf};

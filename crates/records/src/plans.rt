@@ -1,7 +1,8 @@
 // What is to be written for a path. The core writes plain numbers into an array that every path fits into; the array is handed on by value.
-use climb::answers::Refusal;
+use answers::answer::Listed;
+use answers::answer::Refusal;
+use answers::limits::MOST_RANGES;
 use ranges::kinds::Direction;
-use ranges::kinds::Listed;
 use ranges::kinds::PathRange;
 use ranges::lists::edge_path_ranges;
 use ranges::lists::vertex_edge_path_ranges;
@@ -11,10 +12,11 @@ ghost use Prim.Native.Nat.{_<_};
 ghost use Rattle.tables.specs.Tables.{lent};
 ghost use Rattle.ranges.specs.Calls.{rangesOf};
 ghost use Rattle.ranges.specs.declared.kinds.Kind.the-variants.{Vertices, Edges, Both};
-ghost use Rattle.records.specs.Inner.{mostRanges, directionOf, recordAt, planOf, Planned};
+ghost use Rattle.answers.specs.Limits.{mostRanges};
+ghost use Rattle.records.specs.Inner.{directionOf, recordAt, planOf, Planned};
 
-// Three numbers to each of the 31 ranges that a path has at most.
-const MOST_NUMBERS: usize = 93;
+// Three numbers to each of the ranges that a path has at most.
+const MOST_NUMBERS: usize = 3 * MOST_RANGES;
 
 // What a call answers, how many records it writes, and their numbers, three to a record.
 pub struct Plan {

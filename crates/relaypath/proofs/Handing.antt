@@ -2,20 +2,16 @@
 use Prim.Native.Nat.{ℕ}
 use mathlib.Core.Path.{_≡_, subst}
 use mathlib.Core.List.{List}
-use Rattle.climb.specs.declared.answers.Answer.{Answer}
-use Rattle.climb.specs.declared.answers.Interval.{Interval}
+use Rattle.answers.specs.declared.answer.Answer.{Answer}
+use Rattle.answers.specs.declared.answer.Interval.{Interval}
 use Rattle.ranges.specs.Calls.{Answered}
 use Rattle.ranges.specs.Inner.{ListedAs}
-use Rattle.ranges.specs.declared.kinds.Listed.{Listed}
-use Rattle.centroid.specs.declared.tables.Answer.{Answer as Entry}
-use Rattle.relaypath.specs.Handed.{Handed, HandedCount, HandedEntry, HandedEnds}
+use Rattle.answers.specs.declared.answer.Listed.{Listed}
+use Rattle.relaypath.specs.Handed.{Handed, HandedCount, HandedEnds}
 use Rattle.relaypath.specs.Listing.{HandedList}
 
 pub handed-as : {a b : Answer} {before after code : ℕ} → a ≡ b → Handed a before after code → Handed b before after code
 handed-as {before = before} {after = after} {code = code} same given = subst (λ x. Handed x before after code) same given
-
-pub entry-as : {a b : Entry} {before after code : ℕ} → a ≡ b → HandedEntry a before after code → HandedEntry b before after code
-entry-as {before = before} {after = after} {code = code} same given = subst (λ x. HandedEntry x before after code) same given
 
 pub ends-as : {a b : Interval} {start end start′ end′ code : ℕ} → a ≡ b → HandedEnds a start end start′ end′ code → HandedEnds b start end start′ end′ code
 ends-as {start = start} {end = end} {start′ = start′} {end′ = end′} {code = code} same given =

@@ -1,15 +1,13 @@
 -- What a C caller gets of an answer: its code as the result, its values in the numbers lent for them. "A refused call returns its code and no other
 -- number."
-use Prim.Native.Nat.{ℕ}
+use Prim.Native.Nat.{ℕ, _<_, _^_}
 use mathlib.Core.Path.{_≡_}
 use mathlib.Core.List.{List, [], _∷_}
-use Rattle.climb.specs.Answers.{answerCode, answerValues, intervalCode, intervalValues}
-use Rattle.climb.specs.declared.answers.Answer.{Answer}
-use Rattle.climb.specs.declared.answers.Interval.{Interval}
-use Rattle.ranges.specs.Calls.{listedCode, listedValues}
-use Rattle.ranges.specs.declared.kinds.Listed.{Listed}
-use Rattle.centroid.specs.Reads.{readCode, readValues}
-use Rattle.centroid.specs.declared.tables.Answer.{Answer as Entry}
+use Rattle.answers.specs.Answers.{answerCode, answerValues, intervalCode, intervalValues, listedCode, listedValues}
+use Rattle.answers.specs.declared.answer.Answer.{Answer}
+use Rattle.answers.specs.declared.answer.Answer.the-variants.{Is}
+use Rattle.answers.specs.declared.answer.Interval.{Interval}
+use Rattle.answers.specs.declared.answer.Listed.{Listed}
 
 -- the number lent, afterwards: the first of the values, and unchanged where there is none
 abbrev pub firstOr : ℕ → List ℕ → ℕ
@@ -32,8 +30,9 @@ Handed a before after code = Given (answerCode a) (answerValues a) before after 
 abbrev pub HandedCount : Listed → ℕ → ℕ → ℕ → Type 0
 HandedCount l before after code = Given (listedCode l) (listedValues l) before after code
 
-abbrev pub HandedEntry : Entry → ℕ → ℕ → ℕ → Type 0
-HandedEntry e before after code = Given (readCode e) (readValues e) before after code
+-- the value fits a 32-bit number
+abbrev pub Small : Answer → Type 0
+Small a = (x : ℕ) → a ≡ Is x → x < 2 ^ 32
 
 -- an interval's start and end, each in a number of its own
 pub record HandedEnds (i : Interval) (start end start′ end′ code : ℕ) : Type 0 where

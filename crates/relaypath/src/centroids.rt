@@ -2,7 +2,7 @@
 use crate::handed::hand_entry;
 ghost use Rattle.centroid.specs.Calls.{Decomposes, Lists};
 ghost use Rattle.centroid.specs.Reads.{readOf};
-ghost use Rattle.relaypath.specs.Handed.{HandedEntry};
+ghost use Rattle.relaypath.specs.Handed.{Handed};
 
 // The centroid decomposition of the tree of offsets and targets, the first search starting at 0: the centroid above each vertex and its
 // level. Answers 0, else the code of the first test that is not passed, and then writes no table. Work needs 8n + E entries, which are zero
@@ -28,7 +28,7 @@ pub extern "C" fn relaypath_centroid_parent(
     v: usize,
     answer: &mut u32,
 ) -> u32
-    ensures { λ code. ⌜ HandedEntry (readOf (now (parent .entry)) (now (level .entry)) v) (now (answer .entry)) (now (answer .exit)) code ⌝ }
+    ensures { λ code. ⌜ Handed (readOf (now (parent .entry)) (now (level .entry)) v) (now (answer .entry)) (now (answer .exit)) code ⌝ }
 {
     let found = centroid::tables::centroid_parent(parent, level, v);
     hand_entry(found, answer)
@@ -42,7 +42,7 @@ pub extern "C" fn relaypath_centroid_level(
     v: usize,
     answer: &mut u32,
 ) -> u32
-    ensures { λ code. ⌜ HandedEntry (readOf (now (level .entry)) (now (parent .entry)) v) (now (answer .entry)) (now (answer .exit)) code ⌝ }
+    ensures { λ code. ⌜ Handed (readOf (now (level .entry)) (now (parent .entry)) v) (now (answer .entry)) (now (answer .exit)) code ⌝ }
 {
     let found = centroid::tables::centroid_level(parent, level, v);
     hand_entry(found, answer)

@@ -1,25 +1,10 @@
 // Answers in the form that C takes: a code, and the values through numbers lent for them.
-use centroid::tables::Answer as Entry;
-use climb::answers::Answer;
-use climb::answers::Interval;
-use climb::answers::Refusal;
-use ranges::kinds::Listed;
-ghost use mathlib.Core.Path.{_≡_};
-ghost use Rattle.climb.specs.Answers.{refusalCode};
-ghost use Rattle.relaypath.specs.Handed.{Handed, HandedCount, HandedEntry, HandedEnds};
-
-// The code of a refusal.
-pub fn refusal_code(refusal: Refusal) -> u32
-    ensures { λ r. ⌜ r ≡ refusalCode refusal ⌝ }
-{
-    match refusal {
-        Refusal::BadSize => 1,
-        Refusal::NoRoom => 2,
-        Refusal::BadVertex => 4,
-        Refusal::BadTable => 9,
-        Refusal::TooFar => 10,
-    }
-}
+use answers::answer::Answer;
+use answers::answer::Interval;
+use answers::answer::Listed;
+use answers::codes::DONE;
+use answers::codes::TOO_FAR;
+ghost use Rattle.relaypath.specs.Handed.{Handed, HandedCount, HandedEnds, Small};
 
 // The code of an answer. Its value goes into `answer`, which a refusal leaves as it was.
 pub fn hand(found: Answer, answer: &mut usize) -> u32
@@ -28,9 +13,10 @@ pub fn hand(found: Answer, answer: &mut usize) -> u32
     match found {
         Answer::Is(x) => {
             *answer = x;
-            0
+            DONE
         }
-        Answer::Refused(refusal) => refusal_code(refusal),
+        Answer::TooFar => TOO_FAR,
+        Answer::Refused(refusal) => refusal.code(),
     }
 }
 
@@ -41,22 +27,24 @@ pub fn hand_count(found: Listed, count: &mut usize) -> u32
     match found {
         Listed::Count(x) => {
             *count = x;
-            0
+            DONE
         }
-        Listed::Refused(refusal) => refusal_code(refusal),
+        Listed::Refused(refusal) => refusal.code(),
     }
 }
 
-// The same for an entry of the decomposition's tables.
-pub fn hand_entry(found: Entry, answer: &mut u32) -> u32
-    ensures { λ r. ⌜ HandedEntry found (now (answer .entry)) (now (answer .exit)) r ⌝ }
+// The same for an entry of a table, which is a 32-bit number.
+pub fn hand_entry(found: Answer, answer: &mut u32) -> u32
+    requires { ⌜ Small found ⌝ }
+    ensures { λ r. ⌜ Handed found (now (answer .entry)) (now (answer .exit)) r ⌝ }
 {
     match found {
-        Entry::At(x) => {
-            *answer = x;
-            0
+        Answer::Is(x) => {
+            *answer = x as u32;
+            DONE
         }
-        Entry::Refused(code) => code,
+        Answer::TooFar => TOO_FAR,
+        Answer::Refused(refusal) => refusal.code(),
     }
 }
 
@@ -68,8 +56,8 @@ pub fn hand_ends(found: Interval, start: &mut usize, end: &mut usize) -> u32
         Interval::Between(a, e) => {
             *start = a;
             *end = e;
-            0
+            DONE
         }
-        Interval::Refused(refusal) => refusal_code(refusal),
+        Interval::Refused(refusal) => refusal.code(),
     }
 }

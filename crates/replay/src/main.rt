@@ -1,10 +1,10 @@
 // Runs validate_tree on a stored sample of the Rust original's answers, and counts the cases on which the two agree. The sample stands on
 // standard input: 16-bit numbers, the low byte first. The first is the count of cases; each case is n, E, the root, the original's code,
 // n + 1 offsets and E targets.
-use graph::codes::BAD_SIZE;
-use graph::codes::DISCONNECTED;
-use graph::codes::DONE;
-use graph::codes::HAS_CYCLE;
+use answers::codes::BAD_SIZE;
+use answers::codes::DISCONNECTED;
+use answers::codes::DONE;
+use answers::codes::HAS_CYCLE;
 use sample::holds;
 use sample::number;
 use sample::print_count;

@@ -1,8 +1,8 @@
 // Runs try_hld on a stored sample of the Rust original's tables, and counts the cases on which all six tables agree. The sample stands on
 // standard input: each case is n, the root, n + 1 offsets, 2(n - 1) targets, and n entries of each of the tables parent, depth, head, id, order
 // and size, where 65535 stands for no parent.
-use graph::codes::DONE;
-use graph::codes::NO_PARENT;
+use answers::codes::DONE;
+use answers::limits::NO_PARENT;
 use hld::build::try_hld;
 use sample::holds;
 use sample::number;

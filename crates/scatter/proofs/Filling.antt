@@ -8,7 +8,7 @@ use borrow.Author.Tests.{eq-eqb, ne-eqb}
 use Rattle.sums.specs.Sum.{at}
 use Rattle.sums.proofs.Sums.{equal-or-not}
 use Rattle.sums.proofs.Pigeon.{Injective}
-use Rattle.graph.specs.Limits.{noParent}
+use Rattle.answers.specs.Limits.{noParent}
 use Rattle.graph.proofs.Frames.{at-set-same, at-set-other}
 use Rattle.passes.specs.Passes.{region}
 use Rattle.tables.specs.Tables.{Six, Long}

@@ -1,5 +1,5 @@
 // The last pass of the build: from positions of the visit to tables by vertex.
-use graph::codes::NO_PARENT;
+use answers::limits::NO_PARENT;
 use passes::DEEP;
 use passes::ID;
 use passes::SIZE;

@@ -8,7 +8,7 @@ use denote.Triple.Both.{Both}
 use Rattle.sums.specs.Sum.{at}
 use Rattle.paths.specs.Walk.{Stands}
 use Rattle.paths.specs.Rooted.{Spans}
-use Rattle.graph.specs.Limits.{noParent}
+use Rattle.answers.specs.Limits.{noParent}
 use Rattle.numbering.specs.Numbering.{Numbering}
 use Rattle.numbering.specs.RuleOne.{childrenOf, byRuleOne}
 

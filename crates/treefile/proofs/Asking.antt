@@ -9,7 +9,7 @@ use mathlib.Core.List.{List, [], _∷_}
 use lib.ListN.{length, drop, drop-of-length-le}
 use borrow.Author.Tests.{le-leb, lt-leb}
 use Rattle.sums.specs.Sum.{at}
-use Rattle.climb.specs.Choice.{pick}
+use Rattle.answers.specs.Choice.{pick}
 use Rattle.treefile.specs.declared.judge.Found.the-variants.{Count, Cut}
 use Rattle.treefile.specs.File.{Query, query?, Queries, bad, all, before, queriesIn, querySection, maxQueries}
 use Rattle.treefile.specs.Parsing.{queryNumbers}

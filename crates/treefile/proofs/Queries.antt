@@ -8,7 +8,7 @@ use lib.Dec.{eqb}
 use lib.ListN.{length, drop, drop-of-length-le, getD}
 use borrow.Author.Tests.{le-leb, lt-leb, eq-eqb, ne-eqb}
 use Rattle.sums.specs.Sum.{at}
-use Rattle.climb.specs.Choice.{pick, both}
+use Rattle.answers.specs.Choice.{pick, both}
 use Rattle.treefile.specs.File.{Query, query?, Queries, bad, all, before, queriesIn}
 use Rattle.treefile.specs.Sections.{isAll, queryAt}
 use Rattle.treefile.proofs.FileNumbers.{drop-next, drop-three}

@@ -8,10 +8,11 @@ use lib.Dec.{eqb}
 use lib.ListN.{length, length-append}
 use borrow.Author.Tests.{eq-eqb, ne-eqb}
 use Rattle.tables.specs.Tables.{Six}
-use Rattle.climb.specs.declared.answers.Answer.{Answer}
-use Rattle.climb.specs.declared.answers.Answer.the-variants.{Is, Refused}
-use Rattle.climb.specs.Answers.{refusalCode}
-use Rattle.climb.specs.Choice.{pick}
+use Rattle.answers.specs.declared.answer.Answer.{Answer}
+use Rattle.answers.specs.declared.answer.Answer.the-variants.{Is, TooFar, Refused}
+use Rattle.answers.specs.Codes.{tooFar}
+use Rattle.answers.specs.Answers.{refusalCode}
+use Rattle.answers.specs.Choice.{pick}
 use Rattle.queries.specs.Queries.{distance, lca, kthAncestor, jump, subtreeSize}
 use Rattle.ranges.specs.Calls.{Answered, refused, listed, rangesOf}
 use Rattle.ranges.specs.declared.kinds.Kind.{Kind}
@@ -50,6 +51,7 @@ ranges-text-room (r ∷ l) (low, high, rest) =
 
 pub number-text-room : (a : Answer) → length (numberText a) ≤ 2 * mostDigits + 1
 number-text-room (Is x) = omega (arith, decimal-room 0, decimal-room x, length-append (decimal 0) (space ++ decimal x))
+number-text-room TooFar = omega (arith, decimal-room tooFar)
 number-text-room (Refused r) = omega (arith, decimal-room (refusalCode r))
 
 pub tree-line-room : (code n root : ℕ) → length (treeLine code n root) ≤ treeSize

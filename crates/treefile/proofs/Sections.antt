@@ -11,7 +11,7 @@ use lib.ListN.{length, take, drop, length-drop, drop-of-length-le}
 use lib.Seq.{drop-drop, length-take-le}
 use borrow.Author.Tests.{le-leb, lt-leb}
 use Rattle.sums.specs.Sum.{at}
-use Rattle.climb.specs.Choice.{pick, both}
+use Rattle.answers.specs.Choice.{pick, both}
 use Rattle.treefile.specs.declared.judge.Found.the-variants.{Count, Cut}
 use Rattle.treefile.specs.File.{Section, cut, part, section}
 use Rattle.treefile.specs.Sections.{countOf}

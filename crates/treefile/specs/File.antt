@@ -4,7 +4,7 @@ use mathlib.Core.Bool.{Bool, true}
 use mathlib.Core.List.{List, [], _∷_}
 use lib.Dec.{eqb, leb}
 use lib.ListN.{length, take, drop}
-use Rattle.climb.specs.Choice.{pick, both}
+use Rattle.answers.specs.Choice.{pick, both}
 
 -- "more than 1,025 offsets, 2,048 targets or 64 queries" is a BadFile: the program's own limits
 unfoldable pub maxOffsets : ℕ

@@ -5,15 +5,15 @@ use mathlib.Core.List.{List, [], _∷_, _++_}
 use lib.Dec.{eqb}
 use lib.ListN.{length}
 use Rattle.sums.specs.Sum.{at}
-use Rattle.climb.specs.Choice.{pick}
+use Rattle.answers.specs.Choice.{pick}
 use Rattle.tables.specs.Tables.{Six}
 use Rattle.ranges.specs.Calls.{Answered, refused, listed, rangesOf}
 use Rattle.ranges.specs.declared.kinds.Direction.{Direction}
 use Rattle.ranges.specs.declared.kinds.Direction.the-variants.{Forward, Reversed}
 use Rattle.ranges.specs.declared.kinds.PathRange.{PathRange}
 use Rattle.ranges.specs.declared.kinds.Kind.{Kind}
-use Rattle.ranges.specs.declared.kinds.Listed.{Listed}
-use Rattle.ranges.specs.declared.kinds.Listed.the-variants.{Count, Refused}
+use Rattle.answers.specs.declared.answer.Listed.{Listed}
+use Rattle.answers.specs.declared.answer.Listed.the-variants.{Count, Refused}
 use Rattle.treefile.specs.Report.{decimal, space, listText}
 use Rattle.treefile.specs.Sizes.{mostRanges, rangeDigits}
 use Rattle.treefile.specs.Writing.{Room}

@@ -5,10 +5,10 @@ use mathlib.Core.List.{List, [], _∷_, _++_}
 use lib.Dec.{eqb, ltb}
 use lib.ListN.{length}
 use Rattle.tables.specs.Tables.{Six}
-use Rattle.climb.specs.Choice.{pick}
-use Rattle.climb.specs.Answers.{refusalCode, answerCode, answerValues}
+use Rattle.answers.specs.Choice.{pick}
+use Rattle.answers.specs.Answers.{refusalCode, answerCode, answerValues}
 use Rattle.queries.specs.Queries.{distance, lca, kthAncestor, jump, subtreeSize}
-use Rattle.climb.specs.declared.answers.Answer.{Answer}
+use Rattle.answers.specs.declared.answer.Answer.{Answer}
 use Rattle.ranges.specs.Calls.{Answered, refused, listed, rangesOf}
 use Rattle.ranges.specs.declared.kinds.Direction.{Direction}
 use Rattle.ranges.specs.declared.kinds.Direction.the-variants.{Forward, Reversed}

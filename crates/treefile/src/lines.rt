@@ -1,26 +1,21 @@
 // The lines of a report.
 use crate::listing;
 use crate::numbers;
-use climb::answers::Answer;
-use climb::answers::Refusal;
-use ranges::kinds::Listed;
+use answers::answer::Answer;
+use answers::answer::Listed;
+use answers::answer::Refusal;
+use answers::codes::TOO_FAR;
 ghost use mathlib.Core.Path.{_≡_};
-ghost use Rattle.climb.specs.Answers.{refusalCode};
+ghost use Rattle.answers.specs.Answers.{refusalCode};
 ghost use Rattle.treefile.specs.Report.{badReport, numberText, treeLine};
 ghost use Rattle.treefile.specs.Flat.{listedText, ListRoom, queryHead};
 ghost use Rattle.treefile.specs.Writing.{Room, Puts};
 
-// The code of a refusal.
+// The code of a refusal, as a number to print.
 pub fn code_of(refusal: Refusal) -> usize
     ensures { λ r. ⌜ r ≡ refusalCode refusal ⌝ }
 {
-    match refusal {
-        Refusal::BadSize => 1,
-        Refusal::NoRoom => 2,
-        Refusal::BadVertex => 4,
-        Refusal::BadTable => 9,
-        Refusal::TooFar => 10,
-    }
+    refusal.code() as usize
 }
 
 // A query's code, and its number where it has one.
@@ -30,6 +25,7 @@ pub fn put_answer(out: &mut [u8], at: usize, answer: Answer) -> usize
 {
     match answer {
         Answer::Is(x) => numbers::put_fields(out, at, 0, x),
+        Answer::TooFar => numbers::put_decimal(out, at, TOO_FAR as usize),
         Answer::Refused(refusal) => numbers::put_decimal(out, at, code_of(refusal)),
     }
 }

@@ -8,7 +8,7 @@ use mathlib.Core.Logic.{inl, inr, ⊎-elim, by-cases}
 use mathlib.Core.List.{List, [], _∷_}
 use lib.ListN.{length, take}
 use lib.Seq.{length-take-le}
-use Rattle.graph.specs.Limits.{maxVertices}
+use Rattle.answers.specs.Limits.{maxVertices}
 use Rattle.graph.specs.Judgement.{First}
 use Rattle.graph.specs.Lent.{vertices}
 use Rattle.graph.specs.Validation.{roomOf}
@@ -17,7 +17,7 @@ use Rattle.numbering.proofs.Logs.{log2-low, log2-small}
 use Rattle.tables.specs.Tables.{Six, six, Long, NumberingOf}
 use Rattle.hld.specs.Build.{building, Builds}
 use Rattle.climb.specs.Asked.{sizeOf}
-use Rattle.climb.specs.declared.answers.Refusal.the-variants.{BadVertex}
+use Rattle.answers.specs.declared.answer.Refusal.the-variants.{BadVertex}
 use Rattle.pathlaws.specs.Given.{Given}
 use Rattle.pathlaws.proofs.Standing.{answered, asked-or-refused}
 use Rattle.ranges.specs.Calls.{Answered, refused, listed, fromFound, rangesOf}

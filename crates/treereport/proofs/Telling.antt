@@ -10,7 +10,7 @@ use borrow.Author.Tests.{eq-eqb, ne-eqb}
 use Rattle.graph.specs.Lent.{vertices}
 use Rattle.tables.specs.Tables.{Six}
 use Rattle.hld.specs.Build.{Builds}
-use Rattle.climb.specs.Choice.{pick}
+use Rattle.answers.specs.Choice.{pick}
 use Rattle.treefile.specs.File.{TreeFile, file, maxQueries}
 use Rattle.treefile.specs.Report.{treeLine, queryLines, fileReport}
 use Rattle.treefile.specs.Flat.{ShortLists}

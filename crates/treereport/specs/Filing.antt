@@ -4,7 +4,7 @@ use mathlib.Core.Path.{_≡_}
 use mathlib.Core.Logic.{_≢_}
 use mathlib.Core.List.{List}
 use lib.ListN.{length}
-use Rattle.graph.specs.Codes.{done}
+use Rattle.answers.specs.Codes.{done}
 use Rattle.graph.specs.Lent.{vertices}
 use Rattle.tables.specs.Tables.{Six, Long}
 use Rattle.treefile.specs.File.{TreeFile, maxOffsets, maxFileTargets, maxQueries}

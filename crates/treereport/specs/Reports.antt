@@ -3,7 +3,7 @@ use Prim.Native.Nat.{ℕ, _≤_, _<_}
 use mathlib.Core.Path.{_≡_}
 use mathlib.Core.List.{List, _∷_}
 use lib.ListN.{length}
-use Rattle.graph.specs.Codes.{done, badSize}
+use Rattle.answers.specs.Codes.{done, badSize}
 use Rattle.graph.specs.Judgement.{Test, test, First}
 use Rattle.graph.specs.Lent.{vertices, listOf}
 use Rattle.graph.specs.Validation.{Sized, graphTests}

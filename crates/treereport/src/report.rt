@@ -1,5 +1,5 @@
 // The report of a whole file.
-use graph::codes::DONE;
+use answers::codes::DONE;
 use graph::lists::vertices;
 use hld::build::try_hld;
 use querylines::lines::put_queries;

@@ -5,7 +5,7 @@ use mathlib.Core.Path.{_≡_, refl}
 use mathlib.Core.Logic.{_↔_}
 use mathlib.Core.List.{List}
 use lib.ListN.{length}
-use Rattle.graph.specs.Codes.{done}
+use Rattle.answers.specs.Codes.{done}
 use Rattle.graph.specs.Validation.{Sized, roomOf, validation, Validates}
 use Rattle.graph.proofs.Judging.{sized?}
 use Rattle.graph.proofs.Passed.{done-exactly, Sound, passed-sound, sound-passed}

@@ -9,14 +9,14 @@ use lib.ListN.{length}
 use borrow.Author.Tests.{not-true, not-false}
 use Rattle.sums.specs.Sum.{at}
 use Rattle.paths.specs.Tree.{Symmetric, AllReached, Tree}
-use Rattle.graph.specs.Codes.{done, badOffsets, badVertex, badRoot, notSymmetric, disconnected, hasCycle}
+use Rattle.answers.specs.Codes.{done, badOffsets, badVertex, badRoot, notSymmetric, disconnected, hasCycle}
 use Rattle.graph.specs.Judgement.{First}
 use Rattle.graph.specs.Lent.{vertices, listOf, Offsets, Targets}
 use Rattle.graph.specs.Validation.{roomOf, graphTests}
 use Rattle.graph.specs.Steps.{Begun, GraphPart}
 use Rattle.graph.specs.Work.{Only}
 use Rattle.graph.proofs.Frames.{only-refl, only-trans, only-wider}
-use Rattle.graph.proofs.Limits.{vertices-small}
+use Rattle.answers.proofs.Bounds.{vertices-small}
 use Rattle.graph.proofs.Neighbours.{entries-all, list-below}
 use Rattle.symmetry.specs.Symmetry as symmetry
 use Rattle.visit.specs.Visit as visiting

@@ -2,7 +2,7 @@
 use Prim.Native.Nat.{ℕ}
 use mathlib.Core.Path.{_≡_}
 use mathlib.Core.List.{List}
-use Rattle.graph.specs.Codes.{done}
+use Rattle.answers.specs.Codes.{done}
 use Rattle.graph.specs.Judgement.{First}
 use Rattle.graph.specs.Lent.{vertices, listOf}
 use Rattle.graph.specs.Validation.{roomOf, graphTests}

@@ -2,15 +2,15 @@
 mod listed;
 
 use crate::listed::parents_listed;
+use answers::codes::BAD_OFFSETS;
+use answers::codes::BAD_ROOT;
+use answers::codes::BAD_VERTEX;
+use answers::codes::DISCONNECTED;
+use answers::codes::DONE;
+use answers::codes::HAS_CYCLE;
+use answers::codes::NOT_SYMMETRIC;
 use graph::call::begin;
 use graph::call::finish;
-use graph::codes::BAD_OFFSETS;
-use graph::codes::BAD_ROOT;
-use graph::codes::BAD_VERTEX;
-use graph::codes::DISCONNECTED;
-use graph::codes::DONE;
-use graph::codes::HAS_CYCLE;
-use graph::codes::NOT_SYMMETRIC;
 use graph::lists::sound_offsets;
 use graph::lists::sound_targets;
 use symmetry::symmetric;

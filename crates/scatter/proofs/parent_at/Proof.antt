@@ -4,7 +4,7 @@ use Rattle.scatter.proofs.parent_at.Tie as tie
 use native.Mathlib.Omega.{arith}
 use mathlib.Core.Path.{sym}
 use mir.Facts.{fits-widen}
-use Rattle.graph.specs.Limits.{noParent}
+use Rattle.answers.specs.Limits.{noParent}
 use Rattle.scatter.proofs.Filling.{parent-first, parent-later}
 
 returns : tie.Need-returns

@@ -6,8 +6,7 @@ use borrow.Author.Tests.{not-true, not-false}
 use native.Mathlib.Omega.{arith}
 use lib.ListN.{length}
 use Rattle.numbering.specs.Log.{log2}
-use Rattle.climb.proofs.Going.{Going, chainsLeft, u-word, v-word, going-begins, going-u-lost, going-u-less, going-u, going-v-lost, going-v-less, going-v}
-use Rattle.climb.proofs.Going.{climbed-begun, climbed-lost, climbed-met}
+use Rattle.climb.proofs.Going.{Going, chainsLeft, u-word, v-word, going-begins, going-u-lost, going-u-less, going-u, going-v-lost, going-v-less, going-v, climbed-begun, climbed-lost, climbed-met}
 
 abbrev Inv-loop : tie.InvT-loop
 Inv-loop parent depth head id climb₀ climb = Going parent depth head id (log2 (length parent)) (climb₀ .u .vertex) (climb₀ .v .vertex) climb

@@ -4,7 +4,7 @@ use Rattle.climb.proofs.sound.hangs.Statement.{statement}
 use Rattle.climb.proofs.sound.hangs.Tie as tie
 use borrow.Author.Tests.{lt-ltb, le-ltb, eq-eqb, ne-eqb}
 use native.Mathlib.Omega.{arith}
-use Rattle.graph.specs.Limits.{noParent}
+use Rattle.answers.specs.Limits.{noParent}
 
 cast-if1 : tie.Need-cast-if1
 cast-if1 c = search needs

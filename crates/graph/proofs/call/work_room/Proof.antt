@@ -2,7 +2,7 @@ use borrow.Author.Needs.{needs}
 use Rattle.graph.proofs.call.work_room.Statement.{statement}
 use Rattle.graph.proofs.call.work_room.Tie as tie
 use native.Mathlib.Omega.{arith}
-use Rattle.graph.proofs.Limits.{room-fits}
+use Rattle.graph.proofs.Rooms.{room-fits}
 
 vertices-requires : tie.Need-vertices-requires
 vertices-requires c κs = search needs

@@ -2,7 +2,7 @@ use borrow.Author.Needs.{needs}
 use Rattle.graph.proofs.lists.sized.Statement.{statement}
 use Rattle.graph.proofs.lists.sized.Tie as tie
 use native.Mathlib.Omega.{arith}
-use Rattle.graph.specs.Limits.{maxVertices, maxTargets}
+use Rattle.answers.specs.Limits.{maxVertices, maxTargets}
 use Rattle.graph.proofs.Judging.{decides-no, decides-leb}
 
 returns : tie.Need-returns

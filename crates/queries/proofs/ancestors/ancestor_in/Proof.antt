@@ -25,13 +25,10 @@ ancestor-from-requires c κs =
 enum-known-found : tie.Need-enum-known-found
 enum-known-found c = search needs
 
-enum-told : tie.Need-enum-told
-enum-told c = search needs
-
 returns-2 : tie.Need-returns-2
 returns-2 c =
-    let at-start = c .before .before .before .before .before .before .before .before .before .before .before in
-    λ s. c .before .before .ancestor-from .ensures s ∙ rise-reached (at-start .args .parent .now) (at-start .args .depth .now) (at-start .args .head .now) (at-start .args .id .now) (at-start .args .order .now) _ (c .before .before .before .before .before .reach .ensures) (not-false _ (c .before .before .before .if1 .left)) s
+    let at-start = c .before .before .before .before .before .before .before .before .before .before in
+    λ s. c .before .ancestor-from .ensures s ∙ rise-reached (at-start .args .parent .now) (at-start .args .depth .now) (at-start .args .head .now) (at-start .args .id .now) (at-start .args .order .now) _ (c .before .before .before .before .reach .ensures) (not-false _ (c .before .before .if1 .left)) s
 
 returns-3 : tie.Need-returns-3
 returns-3 c =
@@ -46,6 +43,5 @@ ancestor-in-spec =
     returns
     ancestor-from-requires
     enum-known-found
-    enum-told
     returns-2
     returns-3)

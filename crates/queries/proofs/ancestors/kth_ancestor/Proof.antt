@@ -5,7 +5,7 @@ use Rattle.queries.proofs.ancestors.kth_ancestor.Tie as tie
 use mathlib.Core.Path.{sym, _∙_}
 use mathlib.Core.List.{[], _∷_}
 use Rattle.tables.specs.Tables.{Six, six}
-use Rattle.climb.specs.declared.answers.Answer.the-variants.{Refused}
+use Rattle.answers.specs.declared.answer.Answer.the-variants.{Refused}
 use Rattle.climb.proofs.Passed.{Passed, verdict-passed, verdict-refused, answered, lengths, first-below}
 
 abbrev lent : tie.Start → Six

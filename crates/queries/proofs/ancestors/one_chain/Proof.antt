@@ -6,7 +6,7 @@ use borrow.Author.Tests.{not-true, not-false}
 use native.Mathlib.Omega.{arith}
 use mathlib.Core.Path.{sym, _∙_}
 use mathlib.Core.List.{[]}
-use Rattle.graph.specs.Limits.{noParent}
+use Rattle.answers.specs.Limits.{noParent}
 use Rattle.climb.proofs.Reaching.{seat-facts, above-seat}
 use Rattle.queries.proofs.Rising.{rise-unhung, rise-here, rise-too-far, rise-high, rise-worn, rise-unsound, rise-on, room-worn, room-left}
 
@@ -76,8 +76,8 @@ returns-6 c =
 add-t22 : tie.Need-add-t22
 add-t22 c = search needs
 
-sub-t32 : tie.Need-sub-t32
-sub-t32 c = search needs
+sub-t31 : tie.Need-sub-t31
+sub-t31 c = search needs
 
 returns-7 : tie.Need-returns-7
 unfolding noParent
@@ -106,5 +106,5 @@ one-chain-spec =
     reach-above-requires
     returns-6
     add-t22
-    sub-t32
+    sub-t31
     returns-7)

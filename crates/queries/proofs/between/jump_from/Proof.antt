@@ -61,13 +61,10 @@ ancestor-from-requires c κs =
 enum-known-found : tie.Need-enum-known-found
 enum-known-found c = search needs
 
-enum-told-2 : tie.Need-enum-told-2
-enum-told-2 c = search needs
-
 returns-3 : tie.Need-returns-3
 returns-3 c =
-    let at-start = c .before .before .before .before .before .before .before .before .before .before .before .before .before .before .before .before .before .before .before .before in
-    λ s. c .before .before .ancestor-from .ensures s ∙ (rise-from (at-start .args .parent .now) (at-start .args .depth .now) (at-start .args .head .now) (at-start .args .id .now) (at-start .args .order .now) _ _ (at-start .pre .climbs .on-p) s ∙ jump-up _ _ _ _ _ (ap (λ (x : Place). x .depth) (at-start .pre .climbs .on-p .place)) (ap (λ (x : Place). x .depth) (at-start .pre .climbs .on-q .place)) (climbed-on (at-start .args .parent .now) (at-start .args .depth .now) (at-start .args .head .now) (at-start .args .id .now) (c .before .before .before .before .before .before .before .before .before .before .before .before .before .before .climb-to-lca .ensures) (c .before .before .before .before .before .before .before .before .before .before .before .before .c .given .1) (sym (c .before .before .before .before .before .before .before .before .before .before .hangs .ensures) ∙ not-false _ (c .before .before .before .before .before .before .before .before .before .if1 .left)) _ s) (c .before .before .before .before .before .before .before .before .ancestor .ensures) (c .before .before .before .if2 .taken))
+    let at-start = c .before .before .before .before .before .before .before .before .before .before .before .before .before .before .before .before .before .before .before in
+    λ s. c .before .ancestor-from .ensures s ∙ (rise-from (at-start .args .parent .now) (at-start .args .depth .now) (at-start .args .head .now) (at-start .args .id .now) (at-start .args .order .now) _ _ (at-start .pre .climbs .on-p) s ∙ jump-up _ _ _ _ _ (ap (λ (x : Place). x .depth) (at-start .pre .climbs .on-p .place)) (ap (λ (x : Place). x .depth) (at-start .pre .climbs .on-q .place)) (climbed-on (at-start .args .parent .now) (at-start .args .depth .now) (at-start .args .head .now) (at-start .args .id .now) (c .before .before .before .before .before .before .before .before .before .before .before .before .before .climb-to-lca .ensures) (c .before .before .before .before .before .before .before .before .before .before .before .c .given .1) (sym (c .before .before .before .before .before .before .before .before .before .hangs .ensures) ∙ not-false _ (c .before .before .before .before .before .before .before .before .if1 .left)) _ s) (c .before .before .before .before .before .before .before .ancestor .ensures) (c .before .before .if2 .taken))
 
 returns-4 : tie.Need-returns-4
 returns-4 c =
@@ -87,13 +84,10 @@ ancestor-from-requires-2 c κs =
 enum-known-found-2 : tie.Need-enum-known-found-2
 enum-known-found-2 c = search needs
 
-enum-told-3 : tie.Need-enum-told-3
-enum-told-3 c = search needs
-
 returns-6 : tie.Need-returns-6
 returns-6 c =
-    let at-start = c .before .before .before .before .before .before .before .before .before .before .before .before .before .before .before .before .before .before .before .before .before in
-    λ s. c .before .before .ancestor-from2 .ensures s ∙ (rise-from (at-start .args .parent .now) (at-start .args .depth .now) (at-start .args .head .now) (at-start .args .id .now) (at-start .args .order .now) _ _ (at-start .pre .climbs .on-q) s ∙ jump-down _ _ _ _ _ (ap (λ (x : Place). x .depth) (at-start .pre .climbs .on-p .place)) (ap (λ (x : Place). x .depth) (at-start .pre .climbs .on-q .place)) (climbed-on (at-start .args .parent .now) (at-start .args .depth .now) (at-start .args .head .now) (at-start .args .id .now) (c .before .before .before .before .before .before .before .before .before .before .before .before .before .before .before .climb-to-lca .ensures) (c .before .before .before .before .before .before .before .before .before .before .before .before .before .c .given .1) (sym (c .before .before .before .before .before .before .before .before .before .before .before .hangs .ensures) ∙ not-false _ (c .before .before .before .before .before .before .before .before .before .before .if1 .left)) _ s) (c .before .before .before .before .before .before .before .before .before .ancestor .ensures) (c .before .before .before .before .if2 .left) (c .before .before .before .if3 .left))
+    let at-start = c .before .before .before .before .before .before .before .before .before .before .before .before .before .before .before .before .before .before .before .before in
+    λ s. c .before .ancestor-from2 .ensures s ∙ (rise-from (at-start .args .parent .now) (at-start .args .depth .now) (at-start .args .head .now) (at-start .args .id .now) (at-start .args .order .now) _ _ (at-start .pre .climbs .on-q) s ∙ jump-down _ _ _ _ _ (ap (λ (x : Place). x .depth) (at-start .pre .climbs .on-p .place)) (ap (λ (x : Place). x .depth) (at-start .pre .climbs .on-q .place)) (climbed-on (at-start .args .parent .now) (at-start .args .depth .now) (at-start .args .head .now) (at-start .args .id .now) (c .before .before .before .before .before .before .before .before .before .before .before .before .before .before .climb-to-lca .ensures) (c .before .before .before .before .before .before .before .before .before .before .before .before .c .given .1) (sym (c .before .before .before .before .before .before .before .before .before .before .hangs .ensures) ∙ not-false _ (c .before .before .before .before .before .before .before .before .before .if1 .left)) _ s) (c .before .before .before .before .before .before .before .before .ancestor .ensures) (c .before .before .before .if2 .left) (c .before .before .if3 .left))
 
 returns-7 : tie.Need-returns-7
 returns-7 c =
@@ -116,12 +110,10 @@ jump-from-spec =
     add-all
     ancestor-from-requires
     enum-known-found
-    enum-told-2
     returns-3
     returns-4
     returns-5
     ancestor-from-requires-2
     enum-known-found-2
-    enum-told-3
     returns-6
     returns-7)

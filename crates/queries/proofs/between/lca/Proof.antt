@@ -3,11 +3,10 @@ use borrow.Author.Needs.{needs}
 use Rattle.queries.proofs.between.lca.Statement.{statement}
 use Rattle.queries.proofs.between.lca.Tie as tie
 use borrow.Author.Tests.{not-true, not-false}
-use mathlib.Core.Path.{sym, _∙_}
+use mathlib.Core.Path.{sym, _∙_, refl, ap}
 use mathlib.Core.List.{[], _∷_}
 use Rattle.tables.specs.Tables.{Six, six}
-use Rattle.climb.specs.declared.answers.Answer.the-variants.{Refused}
-use mathlib.Core.Path.{refl, ap}
+use Rattle.answers.specs.declared.answer.Answer.the-variants.{Refused}
 use Rattle.climb.proofs.Passed.{Passed, verdict-passed, verdict-refused, answered, lengths, few-parent, first-below, others}
 use Rattle.climb.proofs.Climbs.{climb-off-u, climb-none-v}
 use Rattle.climb.proofs.Reaching.{reached-off, reached-vertex}

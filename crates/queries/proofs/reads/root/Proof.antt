@@ -8,7 +8,7 @@ use mathlib.Core.List.{[]}
 use Rattle.tables.specs.Tables.{Six, six}
 use native.Mathlib.Omega.{arith}
 use mir.Facts.{fits-widen}
-use Rattle.climb.specs.declared.answers.Answer.the-variants.{Refused}
+use Rattle.answers.specs.declared.answer.Answer.the-variants.{Refused}
 use Rattle.climb.proofs.Passed.{Passed, verdict-passed, verdict-refused, lengths}
 use Rattle.climb.proofs.Reaching.{stood-on, stood-off}
 use Rattle.queries.proofs.Reading.{root-beyond, root-off, root-on}

@@ -6,7 +6,7 @@ use Rattle.queries.proofs.reads.vertex_count.Reads as reads
 use mathlib.Core.Path.{sym, _∙_}
 use mathlib.Core.List.{[]}
 use Rattle.tables.specs.Tables.{Six, six}
-use Rattle.climb.specs.declared.answers.Answer.the-variants.{Refused}
+use Rattle.answers.specs.declared.answer.Answer.the-variants.{Refused}
 use Rattle.climb.proofs.Passed.{Passed, verdict-passed, verdict-refused}
 use Rattle.queries.proofs.Reading.{count-answer}
 

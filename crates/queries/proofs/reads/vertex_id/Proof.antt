@@ -3,14 +3,13 @@ use borrow.Author.Needs.{needs}
 use Rattle.queries.proofs.reads.vertex_id.Statement.{statement}
 use Rattle.queries.proofs.reads.vertex_id.Tie as tie
 use borrow.Author.Tests.{not-true, not-false}
-use mathlib.Core.Path.{sym, _∙_}
+use mathlib.Core.Path.{sym, _∙_, ap}
 use mathlib.Core.List.{[], _∷_}
 use Rattle.tables.specs.Tables.{Six, six}
-use Rattle.climb.specs.declared.answers.Answer.the-variants.{Refused}
+use Rattle.answers.specs.declared.answer.Answer.the-variants.{Refused}
 use Rattle.climb.proofs.Passed.{Passed, verdict-passed, verdict-refused, lengths, first-below}
 use Rattle.climb.proofs.Reaching.{stood-on, stood-off}
 use Rattle.queries.proofs.Reading.{read-off, read-on}
-use mathlib.Core.Path.{ap}
 use Rattle.climb.specs.declared.places.Place.{Place}
 use Rattle.climb.proofs.Soundness.{stood-place}
 

@@ -8,7 +8,7 @@ use mathlib.Core.List.{[], _∷_}
 use Rattle.tables.specs.Tables.{Six, six}
 use native.Mathlib.Omega.{arith}
 use mir.Facts.{fits-widen}
-use Rattle.climb.specs.declared.answers.Interval.the-variants.{Refused}
+use Rattle.answers.specs.declared.answer.Interval.the-variants.{Refused}
 use Rattle.climb.proofs.Passed.{Passed, verdict-passed, verdict-refused, answered, lengths, first-below}
 use Rattle.climb.proofs.Soundness.{stood-placed}
 use Rattle.climb.proofs.Reaching.{stood-on, stood-off}

@@ -7,7 +7,7 @@ use mathlib.Core.Path.{sym, _∙_}
 use mathlib.Core.List.{[], _∷_}
 use Rattle.tables.specs.Tables.{Six, six}
 use native.Mathlib.Omega.{arith}
-use Rattle.climb.specs.declared.answers.Answer.the-variants.{Refused}
+use Rattle.answers.specs.declared.answer.Answer.the-variants.{Refused}
 use Rattle.climb.proofs.Passed.{Passed, verdict-passed, verdict-refused, answered, lengths, first-below, others}
 use Rattle.climb.proofs.Soundness.{stood-vertex, stood-again}
 use Rattle.climb.proofs.Reaching.{stood-on, stood-off}

@@ -1,7 +1,7 @@
 -- `chains::chain_range` meets its contract: the doubled numbers neither wrap nor fall below zero.
 use borrow.Author.Needs.{needs}
 use native.Mathlib.Omega.{arith}
-use Rattle.graph.proofs.Limits.{vertices-small}
+use Rattle.answers.proofs.Bounds.{vertices-small}
 use Rattle.ranges.proofs.chains.chain_range.Statement.{statement}
 use Rattle.ranges.proofs.chains.chain_range.Tie as tie
 

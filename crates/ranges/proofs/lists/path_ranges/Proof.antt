@@ -6,7 +6,7 @@ use mathlib.Core.List.{[], _∷_}
 use lib.ListN.{length}
 use Rattle.tables.specs.Tables.{Six, six}
 use Rattle.climb.specs.Asked.{asked}
-use Rattle.climb.specs.declared.asked.Verdict.the-variants.{Ready, Refused}
+use Rattle.answers.specs.declared.asked.Verdict.the-variants.{Ready, Refused}
 use Rattle.ranges.proofs.Listing.{last-few, met-known, met-ends, met-few, ranges-refused, ready-some, ready-small, ready-climbs, ranges-lost, ranges-short, ranges-written}
 use Rattle.ranges.proofs.lists.path_ranges.Statement.{statement}
 use Rattle.ranges.proofs.lists.path_ranges.Tie as tie

@@ -2,7 +2,8 @@
 use Rattle.ranges.proofs.parts.names_part.Statement.{statement}
 use Rattle.ranges.proofs.parts.names_part.Tie as tie
 use borrow.Author.Tests.{le-leb, lt-leb, lt-ltb, le-ltb, eq-eqb, ne-eqb}
-use Rattle.ranges.specs.Parts.{maxStore, named?}
+use Rattle.answers.specs.Limits.{maxStore}
+use Rattle.ranges.specs.Parts.{named?}
 
 returns : tie.Need-returns
 unfolding maxStore

@@ -2,7 +2,7 @@
 use borrow.Author.Needs.{needs}
 use native.Mathlib.Omega.{arith}
 use borrow.Author.Tests.{le-leb, lt-leb}
-use Rattle.graph.specs.Limits.{maxVertices}
+use Rattle.answers.specs.Limits.{maxVertices}
 use Rattle.ranges.proofs.Bounds.{log2-bounded}
 use Rattle.ranges.proofs.room.range_room.Statement.{statement}
 use Rattle.ranges.proofs.room.range_room.Tie as tie

@@ -7,11 +7,10 @@ use Prim.Native.Nat.{ℕ}
 use mathlib.Core.List.{List, []}
 use lib.ListN.{length}
 use Rattle.numbering.specs.Log.{log2}
-use Rattle.graph.proofs.Limits.{vertices-small}
+use Rattle.answers.proofs.Bounds.{vertices-small}
 use Rattle.tables.specs.Tables.{six}
 use Rattle.climb.proofs.Going.{chainsLeft, u-word, v-word, going-u-less, going-v-less}
-use Rattle.ranges.proofs.Writing.{Writing, stands-u, stands-v, writing-start, u-never, u-chain, u-slot, writing-u}
-use Rattle.ranges.proofs.Writing.{v-never, v-room, v-chain, v-slot, writing-v, writing-ends, last-slot, writing-done}
+use Rattle.ranges.proofs.Writing.{Writing, stands-u, stands-v, writing-start, u-never, u-chain, u-slot, writing-u, v-never, v-room, v-chain, v-slot, writing-v, writing-ends, last-slot, writing-done}
 use Rattle.ranges.proofs.writes.write_path.Statement.{statement}
 use Rattle.ranges.proofs.writes.write_path.Tie as tie
 

@@ -30,7 +30,7 @@ use denote.Exit.{yes}
 use denote.Signature.{plain}
 use Rattle.ranges.proofs.kinds.PathRange as R
 use Rattle.ranges.proofs.kinds.PathRange.Laws as R′
-use Rattle.ranges.proofs.kinds.Listed.Laws as L′
+use Rattle.answers.proofs.answer.Listed.Laws as L′
 use Rattle.records.specs.Inner.{Copies}
 use Rattle.records.proofs.plans.Plan as P
 use Rattle.records.proofs.plans.Plan.Laws as P′

@@ -5,7 +5,7 @@ use mathlib.Core.Path.{sym, ap, _∙_, subst}
 use Rattle.treefile.proofs.Writing.{puts-then, puts-as, room-first, room-then, room-as}
 use Prim.Native.Nat.{_≤_}
 use lib.ListN.{length}
-use Rattle.ranges.specs.declared.kinds.Listed.{Listed}
+use Rattle.answers.specs.declared.answer.Listed.{Listed}
 use Rattle.treefile.specs.Report.{decimal}
 use Rattle.treefile.specs.Flat.{listedText, spokenOf}
 

@@ -34,10 +34,11 @@ use denote.Exit.{yes}
 use denote.Signature.{plain}
 use Rattle.ranges.specs.declared.kinds.PathRange.{PathRange}
 use Rattle.ranges.proofs.kinds.PathRange as R
-use Rattle.ranges.proofs.kinds.Listed as L
-use Rattle.ranges.proofs.kinds.Listed.Laws as L′
+use Rattle.answers.proofs.answer.Listed as L
+use Rattle.answers.proofs.answer.Listed.Laws as L′
 use Rattle.records.specs.declared.plans.Plan.{Plan}
-use Rattle.records.specs.Inner.{mostRanges, recordAt, copied}
+use Rattle.answers.specs.Limits.{mostRanges}
+use Rattle.records.specs.Inner.{recordAt, copied}
 use Rattle.records.proofs.plans.Plan as P
 use Rattle.records.proofs.plans.Plan.Laws as P′
 use Rattle.records.proofs.plans.range_at as range-at

@@ -37,9 +37,10 @@ use denote.Triple.Call.{calls-at}
 use Rattle.ranges.specs.declared.kinds.PathRange.{PathRange}
 use Rattle.ranges.proofs.kinds.PathRange as R
 use Rattle.ranges.proofs.kinds.PathRange.Laws as R′
-use Rattle.ranges.proofs.kinds.Listed as L
-use Rattle.ranges.proofs.kinds.Listed.Laws as L′
-use Rattle.records.specs.Inner.{mostRanges, recordAt, copied, Copies}
+use Rattle.answers.proofs.answer.Listed as L
+use Rattle.answers.proofs.answer.Listed.Laws as L′
+use Rattle.answers.specs.Limits.{mostRanges}
+use Rattle.records.specs.Inner.{recordAt, copied, Copies}
 use Rattle.records.proofs.plans.Plan.Laws as P′
 use Rattle.records.proofs.plans.range_at.Symbol.{name as #range-at}
 use Rattle.records.proofs.copies.copy_records.Code.Mir as mir

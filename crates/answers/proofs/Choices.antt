@@ -1,7 +1,12 @@
 -- Laws of choosing by tests: what a choice is once a test is known, and what a choice tells of its tests.
-use mathlib.Core.Path.{_≡_, refl, sym}
+use Prim.Native.Nat.{ℕ, _+_, _≤_, _<_}
+use native.Mathlib.Numerals.{add-one}
+use mathlib.Core.Path.{_≡_, refl, sym, ap, _∙_}
 use mathlib.Core.Bool.{Bool, true, false, true≢false}
-use Rattle.climb.specs.Choice.{pick, both}
+use mathlib.Core.List.{List}
+use lib.ListN.{length, drop, getD, drop-of-length-le}
+use lib.Seq.{drop-cons}
+use Rattle.answers.specs.Choice.{pick, both, all?}
 
 pub pick-true : {A : Type 0} {b : Bool} (x y : A) → b ≡ true → pick b x y ≡ x
 pick-true {A} {b} x y e = rw e
@@ -32,3 +37,17 @@ both-last true true false d e f g = refl
 both-last true true true false e f g = refl
 both-last true true true true false f g = refl
 both-last true true true true true f g = refl
+
+-- A list of numbers, tested one by one: the number at i decides, or the rest does.
+
+all-cons : (t : ℕ → Bool) (l : List ℕ) (i : ℕ) → i < length l → all? t (drop i l) ≡ both (t (getD l i 0)) (all? t (drop (i + 1) l))
+all-cons t l i h = rw (add-one i, drop-cons l i 0 h)
+
+pub all-next : (t : ℕ → Bool) (l : List ℕ) (i : ℕ) → i < length l → t (getD l i 0) ≡ true → all? t (drop (i + 1) l) ≡ all? t (drop i l)
+all-next t l i h e = sym (all-cons t l i h ∙ ap (λ (x : Bool). both x (all? t (drop (i + 1) l))) e)
+
+pub all-stop : (t : ℕ → Bool) (l : List ℕ) (i : ℕ) → i < length l → t (getD l i 0) ≡ false → false ≡ all? t (drop i l)
+all-stop t l i h e = sym (all-cons t l i h ∙ ap (λ (x : Bool). both x (all? t (drop (i + 1) l))) e)
+
+pub all-end : (t : ℕ → Bool) (l : List ℕ) (i : ℕ) → length l ≤ i → true ≡ all? t (drop i l)
+all-end t l i h = rw (drop-of-length-le l h)

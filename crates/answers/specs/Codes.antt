@@ -27,3 +27,12 @@ disconnected = 7
 
 abbrev pub hasCycle : ℕ
 hasCycle = 8
+
+abbrev pub badTable : ℕ
+badTable = 9
+
+abbrev pub tooFar : ℕ
+tooFar = 10
+
+abbrev pub badFileCode : ℕ
+badFileCode = 11

@@ -1,10 +1,4 @@
-// 01's limits and codes by their names.
-pub const MAX_VERTICES: usize = 32_768;
-
-pub const MAX_TARGETS: usize = 65_535;
-
-pub const NO_PARENT: u32 = 4_294_967_295;
-
+// 01's codes by their names.
 pub const DONE: u32 = 0;
 
 pub const BAD_SIZE: u32 = 1;
@@ -22,3 +16,9 @@ pub const NOT_SYMMETRIC: u32 = 6;
 pub const DISCONNECTED: u32 = 7;
 
 pub const HAS_CYCLE: u32 = 8;
+
+pub const BAD_TABLE: u32 = 9;
+
+pub const TOO_FAR: u32 = 10;
+
+pub const BAD_FILE: u32 = 11;

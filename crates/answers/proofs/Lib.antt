@@ -1,0 +1,3 @@
+pub mod Choices
+pub mod Passed
+pub mod Bounds

@@ -1,0 +1,5 @@
+pub mod Choice
+pub mod Codes
+pub mod Limits
+pub mod Answers
+pub mod Asked
