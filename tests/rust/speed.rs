@@ -4,7 +4,6 @@
 mod asked;
 mod calls;
 mod centroids;
-#[cfg(not(lifted))]
 mod components;
 mod labelled;
 mod listed;
@@ -17,7 +16,6 @@ mod tally;
 
 use asked::{distance, jump, kth_ancestor, lca, subtree_size};
 use calls::{original_graph, Lent, DONE};
-#[cfg(not(lifted))]
 use components::Filled;
 use listed::KINDS;
 use lists::Lists;
@@ -87,11 +85,9 @@ fn builds(n: usize, shape: &str, lists: &Lists) {
         || (0..k).for_each(|_| drop(black_box(graph.try_centroid_decomposition()))),
     );
     line(n, shape, "try_centroid_decomposition", k, found);
-    #[cfg(not(lifted))]
     components(n, shape, &graph, &mut lent);
 }
 
-#[cfg(not(lifted))]
 fn components(n: usize, shape: &str, graph: &Graph<()>, lent: &mut Lent) {
     let k = times(n);
     let made = graph.try_centroid_decomposition();
@@ -106,7 +102,6 @@ fn components(n: usize, shape: &str, graph: &Graph<()>, lent: &mut Lent) {
 }
 
 // The original's way to the same lists: the decomposition, and then each component.
-#[cfg(not(lifted))]
 fn listed(graph: &Graph<()>) {
     let made = graph.try_centroid_decomposition();
     let made = made.unwrap_or_else(|_| panic!("the lists of a tree"));

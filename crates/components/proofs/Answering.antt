@@ -1,7 +1,7 @@
 -- The call from its beginning to its end: what each return leaves.
-use Prim.Native.Nat.{ℕ, zero, suc, _+_, _≤_, _<_, _^_}
+use Prim.Native.Nat.{ℕ, _+_, _≤_, _<_, _^_}
 use native.Mathlib.Omega.{arith}
-use native.Mathlib.Nat.{two-pow-succ}
+use native.Mathlib.Nat.{le-trans, le-of-eq, lt-of-le-of-lt, mul-le-mul-right}
 use mathlib.Core.Path.{_≡_, refl}
 use mathlib.Core.Logic.{_≢_, inl, inr}
 use mathlib.Core.List.{List, [], _∷_}
@@ -10,7 +10,8 @@ use Rattle.sums.specs.Sum.{at}
 use Rattle.sums.proofs.Sums.{sum-mono, sum-const}
 use Rattle.answers.specs.Codes.{done, noRoom}
 use Rattle.graph.specs.Judgement.{test, First}
-use Rattle.answers.specs.Limits.{maxVertices}
+use Rattle.answers.specs.Limits.{mostChains}
+use Rattle.answers.proofs.Bounds.{totals-small, chains-few}
 use Rattle.graph.specs.Lent.{vertices}
 use Rattle.graph.specs.Validation.{roomOf, graphTests}
 use Rattle.graph.specs.Steps.{Begun}
@@ -29,16 +30,6 @@ use Rattle.centroidlaws.proofs.Determined.{fitting-total}
 use Rattle.components.specs.Levels.{levelsIn, totalIn, FindAsks, LevelsFound, TotalAsks}
 use Rattle.components.specs.Listing.{AllAsks, AllListed, GraphListed}
 use Rattle.components.proofs.Held.{levels-at, total-levels}
-
--- a number is below 2 to its power
-below-power : (k : ℕ) → k < 2 ^ k
-below-power zero = omega arith
-below-power (suc k) = let ih = below-power k in let e = two-pow-succ k in omega arith
-
--- the limit as a power
-limit : maxVertices ≤ 2 ^ 15
-unfolding maxVertices
-limit = omega arith
 
 module _ (os ts vs ds bs ss w : List ℕ) (b : Begun os ts w) where
   -- the table of starts is too short
@@ -78,31 +69,30 @@ module _ (os ts vs ds bs ss w : List ℕ) (b : Begun os ts w) where
       tree-asks = record { tree = lent-tree (b .sized) j e; room = (let r = b .room in let l = j .only .same-length in omega arith) }
 
       module _ {w₂ : List ℕ} (f : LevelsFound os ts (vertices os) w₁ w₂) where
-        -- no level reaches n
-        level-low : (v : ℕ) → v < vertices os → at w₂ (levelOfAt (vertices os) v) < vertices os
+        -- no level exceeds the most chains
+        level-low : (v : ℕ) → v < vertices os → at w₂ (levelOfAt (vertices os) v) ≤ mostChains
         level-low v hv =
-            let b = level-bound (passed .listed .spans) (f .decomposition) hv .0 in
-            let p = below-power (at (levelsIn (vertices os) w₂) v) in
+            let l = level-bound (passed .listed .spans) (f .decomposition) hv .1 in
+            let c = chains-few (vertices os) (b .sized .some-vertex) (b .sized .few-vertices) in
             let q = levels-at (vertices os) w₂ v hv in
             omega arith
 
-        -- their sum can be taken
+        -- so their sum can be taken
         pub total-asks : TotalAsks (vertices os) w₂
         total-asks = record {
-          few = (let l = b .sized .few-vertices in let k = limit in omega arith);
+          few = b .sized .few-vertices;
           room = (let r = b .room in let l = j .only .same-length in let k = f .only .same-length in omega arith);
           low = level-low;
         }
 
-        -- it is small
+        -- and is small
         total-small : totalIn (vertices os) w₂ < 2 ^ 32
         total-small =
             let n : ℕ = vertices os in
-            let l = b .sized .few-vertices in
-            let k = limit in
-            let m = sum-mono n (λ v. at w₂ (levelOfAt n v) + 1) (λ v. 2 ^ 15) (λ v hv. let b = level-low v hv in omega arith) in
-            let c = sum-const n (2 ^ 15) in
-            omega arith
+            let m = sum-mono n (λ v. at w₂ (levelOfAt n v) + 1) (λ v. mostChains + 1) (λ v hv. let d = level-low v hv in omega arith) in
+            lt-of-le-of-lt
+            (le-trans m (le-trans (le-of-eq (sum-const n (mostChains + 1))) (mul-le-mul-right (mostChains + 1) (b .sized .few-vertices))))
+            totals-small
 
         -- what was written so far
         judged-only : Only 0 (roomOf os ts) w w₂

@@ -1,9 +1,10 @@
 -- What the functions that write the levels into work ask and answer.
-use Prim.Native.Nat.{ℕ, _+_, _≤_, _<_, _^_}
+use Prim.Native.Nat.{ℕ, _+_, _≤_, _<_}
 use mathlib.Core.Path.{_≡_}
 use mathlib.Core.List.{List}
 use lib.ListN.{length, take, drop}
 use Rattle.sums.specs.Sum.{at, sum}
+use Rattle.answers.specs.Limits.{maxVertices, mostChains}
 use Rattle.graph.specs.Lent.{listOf}
 use Rattle.graph.specs.Work.{Only}
 use Rattle.centroid.specs.Decomposition.{DecompositionOf}
@@ -49,8 +50,8 @@ pub record LevelsFound (os ts : List ℕ) (n : ℕ) (w w′ : List ℕ) : Type 0
   pub decomposition : DecompositionOf n (listOf os ts) up (levelsIn n w′)
   pub only : Only 0 (workEnd n) w w′
 
--- levels below n of at most 32,768 vertices, whose sum fits
+-- levels of vertices within their limit, none above the most chains, so that their sum fits
 pub record TotalAsks (n : ℕ) (w : List ℕ) : Type 0 where
-  pub few : n ≤ 2 ^ 15
+  pub few : n ≤ maxVertices
   pub room : workEnd n ≤ length w
-  pub low : (v : ℕ) → v < n → at w (levelOfAt n v) < n
+  pub low : (v : ℕ) → v < n → at w (levelOfAt n v) ≤ mostChains
