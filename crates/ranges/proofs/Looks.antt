@@ -18,17 +18,16 @@ use Rattle.climb.specs.declared.places.Climbed.{Climbed}
 use Rattle.climb.specs.declared.places.Climbed.the-variants.{Met, Lost}
 use Rattle.climb.proofs.Soundness.{stood-placed}
 use Rattle.climb.proofs.Climbs.{moved, climb-met, climb-u, climb-u-lost, climb-v, climb-v-lost, climb-from, climb-off-u, climb-off-v}
-use Rattle.ranges.specs.declared.kinds.Direction.the-variants.{Forward, Reversed}
 use Rattle.ranges.specs.declared.kinds.PathRange.{PathRange}
 use Rattle.ranges.specs.declared.kinds.Kind.{Kind}
-use Rattle.ranges.specs.Ranges.{Found, lost, found, inFront, behind, chainRange, lastChain, ranging, pathRanges}
+use Rattle.ranges.specs.Ranges.{Found, lost, found, inFront, behind, uPiece, vPiece, chainRange, lastChain, ranging, pathRanges}
 
 -- the range of the chain that a side leaves
 abbrev pub uRange : Kind → Climb → PathRange
-uRange kind c = chainRange kind (c .u .first) (c .u .id + 1) Reversed
+uRange kind c = chainRange kind (uPiece c)
 
 abbrev pub vRange : Kind → Climb → PathRange
-vRange kind c = chainRange kind (c .v .first) (c .v .id + 1) Forward
+vRange kind c = chainRange kind (vPiece c)
 
 -- One look.
 

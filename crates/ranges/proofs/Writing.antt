@@ -19,11 +19,10 @@ use Rattle.climb.proofs.Reaching.{reached-off, reached-vertex, seat-facts}
 use Rattle.climb.proofs.Going.{Going, chainsLeft, going-begins, going-u, going-v, u-fewer, v-fewer}
 use Rattle.climb.proofs.Handed.{climbs-from}
 use Rattle.ranges.specs.declared.kinds.PathRange.{PathRange}
+use Rattle.ranges.specs.declared.kinds.Piece.{Piece}
 use Rattle.ranges.specs.declared.kinds.Kind.{Kind}
 use Rattle.ranges.specs.declared.chains.Last.{Last}
-use Rattle.ranges.specs.declared.kinds.Direction.{Direction}
-use Rattle.ranges.specs.declared.kinds.Direction.the-variants.{Forward, Reversed}
-use Rattle.ranges.specs.Ranges.{Found, lost, found, inFront, behind, chainRange, lastChain, ranging, pathRanges}
+use Rattle.ranges.specs.Ranges.{Found, lost, found, inFront, behind, uPiece, vPiece, chainRange, lastChain, ranging, pathRanges}
 use Rattle.ranges.specs.Calls.{flat}
 use Rattle.ranges.specs.Inner.{Chain, Ends, lastList, written, Small, Slot, LastSlot, Climbs, Known}
 use Rattle.ranges.proofs.Bounds.{climbs-small}
@@ -46,9 +45,9 @@ behind-found r lost e = absurd (found-lost e)
 behind-found r (found m) {l} e = let z : l ≡ m ++ (r ∷ []) = cc in (m, refl, z)
 
 -- a range of a chain goes into a slot
-chain-slot : (kind : Kind) (l r : ℕ) (d : Direction) (w : List ℕ) (slot : ℕ) {x : PathRange}
-    → x ≡ chainRange kind l r d → Chain l r → 3 * slot + 3 ≤ length w → Slot w slot x
-chain-slot kind l r d w slot e h room = record { room = room; small = subst Small (sym e) (chain-small kind l r d (h .numbers)) }
+chain-slot : (kind : Kind) (p : Piece) (w : List ℕ) (slot : ℕ) {x : PathRange}
+    → x ≡ chainRange kind p → Chain p → 3 * slot + 3 ≤ length w → Slot w slot x
+chain-slot kind p w slot e h room = record { room = room; small = subst Small (sym e) (chain-small kind p (h .numbers)) }
 
 -- a test that cannot fail
 always : (b : Bool) → (b ≡ false → ⊥) → b ≡ true
@@ -164,7 +163,7 @@ module _ (kind : Kind) (t : Six) (u v count : ℕ) (lent : List ℕ) where
           u-room : c .«u_count» + 1 + c .«v_count» ≤ count
           u-room = let e = ap length (u-rest .2) in omega (arith, g .fill)
 
-          pub u-chain : sizeOf t ≤ maxVertices → Chain (c .u .first) (c .u .id + 1)
+          pub u-chain : sizeOf t ≤ maxVertices → Chain (uPiece c)
           u-chain small =
               record {
                 above = left-number t (c .u) (c .«u_count») l on;
@@ -173,7 +172,7 @@ module _ (kind : Kind) (t : Six) (u v count : ℕ) (lent : List ℕ) where
 
           pub u-slot : sizeOf t ≤ maxVertices → 3 * count ≤ length lent → {x : PathRange} → x ≡ uRange kind c → Slot w (c .«u_count») x
           u-slot small room e =
-              chain-slot kind (c .u .first) (c .u .id + 1) Reversed w (c .«u_count») e (u-chain small) (omega (arith, u-room, g .long))
+              chain-slot kind (uPiece c) w (c .«u_count») e (u-chain small) (omega (arith, u-room, g .long))
 
           u-next : Writing (uMoved c (r .place)) (written w (c .«u_count») (uRange kind c ∷ []))
           u-next =
@@ -229,7 +228,7 @@ module _ (kind : Kind) (t : Six) (u v count : ℕ) (lent : List ℕ) where
           pub v-room : c .«u_count» + 1 + c .«v_count» ≤ count
           v-room = let e = v-length in omega (arith, g .fill)
 
-          pub v-chain : sizeOf t ≤ maxVertices → Chain (c .v .first) (c .v .id + 1)
+          pub v-chain : sizeOf t ≤ maxVertices → Chain (vPiece c)
           v-chain small =
               record {
                 above = left-number t (c .v) (c .«v_count») l on;
@@ -238,7 +237,7 @@ module _ (kind : Kind) (t : Six) (u v count : ℕ) (lent : List ℕ) where
 
           pub v-slot : sizeOf t ≤ maxVertices → 3 * count ≤ length lent → {x : PathRange} → x ≡ vRange kind c → Slot w (count - 1 - c .«v_count») x
           v-slot small room e =
-              chain-slot kind (c .v .first) (c .v .id + 1) Forward w (count - 1 - c .«v_count») e (v-chain small) (omega (arith, v-room, g .long))
+              chain-slot kind (vPiece c) w (count - 1 - c .«v_count») e (v-chain small) (omega (arith, v-room, g .long))
 
           v-next : Writing (vMoved c (r .place)) (written w (count - 1 - c .«v_count») (vRange kind c ∷ []))
           v-next =

@@ -11,6 +11,7 @@ use Rattle.climb.specs.Inner.{Even}
 use Rattle.climb.specs.declared.places.Climb.{Climb}
 use Rattle.climb.specs.declared.places.Climbed.{Climbed}
 use Rattle.ranges.specs.declared.kinds.PathRange.{PathRange}
+use Rattle.ranges.specs.declared.kinds.Piece.{Piece}
 use Rattle.ranges.specs.declared.kinds.Kind.{Kind}
 use Rattle.answers.specs.declared.answer.Listed.{Listed}
 use Rattle.ranges.specs.declared.chains.Last.{Last}
@@ -23,15 +24,15 @@ pub record ListedAs (a : Answered) (lent left : List ℕ) (r : Listed) : Type 0 
   pub answer : r ≡ roomAnswer a (length lent)
   pub list : left ≡ roomList a lent
 
--- numbers of vertices, from l up to r
-pub record Numbers (l r : ℕ) : Type 0 where
-  pub some : l < r
-  pub small : r ≤ maxVertices
+-- a piece has a number, and its numbers are those of vertices
+pub record Numbers (p : Piece) : Type 0 where
+  pub some : p .from < p .to
+  pub small : p .to ≤ maxVertices
 
--- the numbers of a chain that is left: its head has a parent, which has a smaller number
-pub record Chain (l r : ℕ) : Type 0 where
-  pub above : 1 ≤ l
-  pub numbers : Numbers l r
+-- the piece of a chain that is left: its head has a parent, which has a smaller number
+pub record Chain (p : Piece) : Type 0 where
+  pub above : 1 ≤ p .from
+  pub numbers : Numbers p
 
 -- the numbers of both ends are those of vertices
 pub record Ends (c : Climb) : Type 0 where

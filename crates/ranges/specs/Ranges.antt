@@ -12,30 +12,44 @@ use Rattle.climb.specs.declared.places.Climb.{Climb}
 use Rattle.ranges.specs.declared.kinds.Direction.{Direction}
 use Rattle.ranges.specs.declared.kinds.Direction.the-variants.{Forward, Reversed}
 use Rattle.ranges.specs.declared.kinds.PathRange.{PathRange}
+use Rattle.ranges.specs.declared.kinds.Piece.{Piece}
 use Rattle.ranges.specs.declared.kinds.Kind.{Kind}
 use Rattle.ranges.specs.declared.kinds.Kind.the-variants.{Vertices, Edges, Both}
 
-abbrev pub range : ℕ → ℕ → Direction → PathRange
-range l r d = record { start = l; end = r; direction = d }
+-- the numbers [l, r) of the vertices that a path has on one chain, read in a direction
+abbrev pub piece : ℕ → ℕ → Direction → Piece
+piece l r d = record { from = l; to = r; direction = d }
 
--- the range of a chain that is left, with the numbers [l, r). "Vertex x is 2·id, its parent edge 2·id−1. A range [l,r) becomes [2l−1, 2r−1)"
-abbrev pub chainRange : Kind → ℕ → ℕ → Direction → PathRange
-chainRange Vertices l r d = range l r d
-chainRange Edges l r d = range l r d
-chainRange Both l r d = range (2 * l - 1) (2 * r - 1) d
+-- the piece of the chain that a side leaves, from its head's number on. "The u side climbs chain by chain (Reversed, high to low)"
+abbrev pub uPiece : Climb → Piece
+uPiece c = piece (c .u .first) (c .u .id + 1) Reversed
 
--- the range of the last chain: "Edge ranges: the same without the LCA's id; an empty last range is left out"; the doubled one "starts at 2l"
-abbrev pub lastRange : Kind → ℕ → ℕ → Direction → List PathRange
-lastRange Vertices l r d = range l r d ∷ []
-lastRange Edges l r d = pick (ltb (l + 1) r) (range (l + 1) r d ∷ []) []
-lastRange Both l r d = range (2 * l) (2 * r - 1) d ∷ []
+-- "then the v side in turned order (Forward)"
+abbrev pub vPiece : Climb → Piece
+vPiece c = piece (c .v .first) (c .v .id + 1) Forward
 
 -- "In the last chain, if id(v) < id(u) the range goes to the u side, else to the v side"
+abbrev pub lastPiece : Climb → Piece
+lastPiece c = pick (ltb (c .v .id) (c .u .id)) (piece (c .v .id) (c .u .id + 1) Reversed) (piece (c .u .id) (c .v .id + 1) Forward)
+
+-- a range with the numbers [l, r), and the rest from the piece that it is of: the one place where a record is made
+abbrev pub range : ℕ → ℕ → Piece → PathRange
+range l r p = record { start = l; end = r; direction = p .direction }
+
+-- the range of a chain that is left. "Vertex x is 2·id, its parent edge 2·id−1. A range [l,r) becomes [2l−1, 2r−1)"
+abbrev pub chainRange : Kind → Piece → PathRange
+chainRange Vertices p = range (p .from) (p .to) p
+chainRange Edges p = range (p .from) (p .to) p
+chainRange Both p = range (2 * p .from - 1) (2 * p .to - 1) p
+
+-- the range of the last chain: "Edge ranges: the same without the LCA's id; an empty last range is left out"; the doubled one "starts at 2l"
+abbrev pub lastRange : Kind → Piece → List PathRange
+lastRange Vertices p = range (p .from) (p .to) p ∷ []
+lastRange Edges p = pick (ltb (p .from + 1) (p .to)) (range (p .from + 1) (p .to) p ∷ []) []
+lastRange Both p = range (2 * p .from) (2 * p .to - 1) p ∷ []
+
 abbrev pub lastChain : Kind → Climb → List PathRange
-lastChain kind c =
-    pick (ltb (c .v .id) (c .u .id))
-    (lastRange kind (c .v .id) (c .u .id + 1) Reversed)
-    (lastRange kind (c .u .id) (c .v .id + 1) Forward)
+lastChain kind c = lastRange kind (lastPiece c)
 
 -- the ranges of a climb, or none where it is lost
 pub data Found : Type 0 where
@@ -60,11 +74,11 @@ ranging (suc k) kind n t c =
       | true ↦ found (lastChain kind c)
       | false ↦ elim (leb (c .v .top) (c .u .top)) [
         | true ↦ elim (leaveChain n t (c .u) (c .«u_count»)) [
-          | On p ↦ inFront (chainRange kind (c .u .first) (c .u .id + 1) Reversed) (ranging k kind n t (uMoved c p))
+          | On p ↦ inFront (chainRange kind (uPiece c)) (ranging k kind n t (uMoved c p))
           | Unsound ↦ lost
         ]
         | false ↦ elim (leaveChain n t (c .v) (c .«v_count»)) [
-          | On p ↦ behind (chainRange kind (c .v .first) (c .v .id + 1) Forward) (ranging k kind n t (vMoved c p))
+          | On p ↦ behind (chainRange kind (vPiece c)) (ranging k kind n t (vMoved c p))
           | Unsound ↦ lost
         ]
       ]

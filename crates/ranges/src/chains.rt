@@ -1,11 +1,12 @@
-// The range of a chain that a path leaves, and the range of its last chain.
+// The pieces of a path, one to a chain that it leaves and one to its last chain, and the range of each.
 use crate::kinds::Direction;
 use crate::kinds::Kind;
 use crate::kinds::PathRange;
+use crate::kinds::Piece;
 use climb::places::Climb;
 ghost use mathlib.Core.Path.{_≡_};
 ghost use lib.ListN.{length};
-ghost use Rattle.ranges.specs.Ranges.{chainRange, lastRange, lastChain};
+ghost use Rattle.ranges.specs.Ranges.{uPiece, vPiece, lastPiece, range, chainRange, lastRange, lastChain};
 ghost use Rattle.ranges.specs.Inner.{Numbers, Chain, Ends, lastList};
 
 // The range of the last chain, or none where it would be empty.
@@ -14,71 +15,87 @@ pub enum Last {
     Empty,
 }
 
-// The range of a chain that is left, with the numbers from l up to r.
-pub(crate) fn chain_range(kind: Kind, l: usize, r: usize, direction: Direction) -> PathRange
-    requires { ⌜ Chain l r ⌝ }
-    ensures { λ range. ⌜ range ≡ chainRange kind l r direction ⌝ }
-{
-    match kind {
-        Kind::Vertices => PathRange {
-            start: l,
-            end: r,
-            direction,
-        },
-        Kind::Edges => PathRange {
-            start: l,
-            end: r,
-            direction,
-        },
-        Kind::Both => PathRange {
-            start: 2 * l - 1,
-            end: 2 * r - 1,
-            direction,
-        },
-    }
-}
-
-// The range of the last chain, with the numbers from l up to r, of which l is the ancestor's.
-fn last_range(kind: Kind, l: usize, r: usize, direction: Direction) -> Last
-    requires { ⌜ Numbers l r ⌝ }
-    ensures { λ last. ⌜ lastList last ≡ lastRange kind l r direction ⌝ }
-{
-    match kind {
-        Kind::Vertices => Last::One(PathRange {
-            start: l,
-            end: r,
-            direction,
-        }),
-        Kind::Edges => {
-            if l + 1 < r {
-                Last::One(PathRange {
-                    start: l + 1,
-                    end: r,
-                    direction,
-                })
-            } else {
-                Last::Empty
-            }
-        }
-        Kind::Both => Last::One(PathRange {
-            start: 2 * l,
-            end: 2 * r - 1,
-            direction,
-        }),
-    }
-}
-
-// The range of the last chain of a climb: on the u side where u lies below v, else on the v side.
-pub(crate) fn last_chain(kind: Kind, climb: Climb) -> Last
+// The piece of the chain that the u side leaves: from the chain's head up to where the side stands, read high to low.
+pub(crate) fn u_piece(climb: Climb) -> Piece
     requires { ⌜ Ends climb ⌝ }
-    ensures { λ last. ⌜ lastList last ≡ lastChain kind climb ⌝ }
+    ensures { λ piece. ⌜ piece ≡ uPiece climb ⌝ }
+{
+    Piece::new(climb.u.first, climb.u.id + 1, Direction::Reversed)
+}
+
+// The piece of the chain that the v side leaves, read low to high.
+pub(crate) fn v_piece(climb: Climb) -> Piece
+    requires { ⌜ Ends climb ⌝ }
+    ensures { λ piece. ⌜ piece ≡ vPiece climb ⌝ }
+{
+    Piece::new(climb.v.first, climb.v.id + 1, Direction::Forward)
+}
+
+// The piece of the last chain of a climb: on the u side where u lies below v, else on the v side.
+pub(crate) fn last_piece(climb: Climb) -> Piece
+    requires { ⌜ Ends climb ⌝ }
+    ensures { λ piece. ⌜ piece ≡ lastPiece climb ⌝ }
 {
     let u = climb.u.id;
     let v = climb.v.id;
     if v < u {
-        return last_range(kind, v, u + 1, Direction::Reversed);
+        return Piece::new(v, u + 1, Direction::Reversed);
     }
-    last_range(kind, u, v + 1, Direction::Forward)
+    Piece::new(u, v + 1, Direction::Forward)
+}
+
+// A range with the numbers from start up to end, and the rest from the piece that it is of: the one place where a record is made.
+fn range_of(start: usize, end: usize, piece: Piece) -> PathRange
+    ensures { λ r. ⌜ r ≡ range start end piece ⌝ }
+{
+    let direction = piece.direction;
+    PathRange {
+        start,
+        end,
+        direction,
+    }
+}
+
+// The range of a chain that is left.
+pub(crate) fn chain_range(kind: Kind, piece: Piece) -> PathRange
+    requires { ⌜ Chain piece ⌝ }
+    ensures { λ range. ⌜ range ≡ chainRange kind piece ⌝ }
+{
+    let from = piece.from;
+    let to = piece.to;
+    match kind {
+        Kind::Vertices => range_of(from, to, piece),
+        Kind::Edges => range_of(from, to, piece),
+        Kind::Both => range_of(2 * from - 1, 2 * to - 1, piece),
+    }
+}
+
+// The range of the last chain, of whose numbers the first is the ancestor's.
+fn last_range(kind: Kind, piece: Piece) -> Last
+    requires { ⌜ Numbers piece ⌝ }
+    ensures { λ last. ⌜ lastList last ≡ lastRange kind piece ⌝ }
+{
+    let from = piece.from;
+    let to = piece.to;
+    match kind {
+        Kind::Vertices => Last::One(range_of(from, to, piece)),
+        Kind::Edges => {
+            if from + 1 < to {
+                Last::One(range_of(from + 1, to, piece))
+            } else {
+                Last::Empty
+            }
+        }
+        Kind::Both => Last::One(range_of(2 * from, 2 * to - 1, piece)),
+    }
+}
+
+// The range of the last chain of a climb.
+pub(crate) fn last_chain(kind: Kind, climb: Climb) -> Last
+    requires { ⌜ Ends climb ⌝ }
+    ensures { λ last. ⌜ lastList last ≡ lastChain kind climb ⌝ }
+{
+    last_range(kind, last_piece(climb))
 }
 
 // How many ranges the last chain has.

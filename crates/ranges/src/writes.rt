@@ -2,6 +2,8 @@
 use crate::chains::Last;
 use crate::chains::chain_range;
 use crate::chains::last_chain;
+use crate::chains::u_piece;
+use crate::chains::v_piece;
 use crate::kinds::Direction;
 use crate::kinds::Kind;
 use crate::kinds::PathRange;
@@ -76,7 +78,7 @@ pub(crate) fn write_path(
             if !next.sound {
                 return;
             }
-            let range = chain_range(kind, climb.u.first, climb.u.id + 1, Direction::Reversed);
+            let range = chain_range(kind, u_piece(climb));
             write_range(ranges, climb.u_count, range);
             climb = climb.u_moved(next.place);
         } else {
@@ -84,7 +86,7 @@ pub(crate) fn write_path(
             if !next.sound {
                 return;
             }
-            let range = chain_range(kind, climb.v.first, climb.v.id + 1, Direction::Forward);
+            let range = chain_range(kind, v_piece(climb));
             write_range(ranges, count - 1 - climb.v_count, range);
             climb = climb.v_moved(next.place);
         }

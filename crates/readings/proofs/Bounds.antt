@@ -16,7 +16,7 @@ use Rattle.numbering.proofs.Whole.{id-below}
 use Rattle.tables.specs.Tables.{Six}
 use Rattle.climb.specs.Sound.{depthIn, headIn, idIn}
 use Rattle.pathlaws.specs.Given.{Given, lightsIn}
-use Rattle.ranges.specs.Ranges.{found, chainRange, lastRange, pathRanges}
+use Rattle.ranges.specs.Ranges.{found, piece, chainRange, lastRange, pathRanges}
 use Rattle.ranges.specs.declared.kinds.Direction.{Direction}
 use Rattle.ranges.specs.declared.kinds.Direction.the-variants.{Forward, Reversed}
 use Rattle.ranges.specs.declared.kinds.PathRange.{PathRange}
@@ -26,13 +26,13 @@ use Rattle.readings.specs.Numbers.{lastEnd, Within}
 use Rattle.readings.proofs.Found.{Kept, ranges-ind}
 
 -- the range of a chain of vertices has a number and ends in time
-chain-within : (kind : Kind) (n l r : ℕ) (d : Direction) → l < r → r ≤ n → Within (lastEnd kind n) (chainRange kind l r d ∷ [])
+chain-within : (kind : Kind) (n l r : ℕ) (d : Direction) → l < r → r ≤ n → Within (lastEnd kind n) (chainRange kind (piece l r d) ∷ [])
 chain-within Vertices n l r d h i = (h, i, tt)
 chain-within Edges n l r d h i = (h, i, tt)
 chain-within Both n l r d h i = (omega arith, omega arith, tt)
 
 -- and so has that of the last chain
-last-within : (kind : Kind) (n l r : ℕ) (d : Direction) → l < r → r ≤ n → Within (lastEnd kind n) (lastRange kind l r d)
+last-within : (kind : Kind) (n l r : ℕ) (d : Direction) → l < r → r ≤ n → Within (lastEnd kind n) (lastRange kind (piece l r d))
 last-within Vertices n l r d h i = (h, i, tt)
 last-within Edges n l r d h i = elim (decLt (l + 1) r) [
   | yes p ↦ rw (lt-ltb (l + 1) r p) (p, i, tt)
@@ -41,7 +41,7 @@ last-within Edges n l r d h i = elim (decLt (l + 1) r) [
 last-within Both n l r d h i = (omega arith, omega arith, tt)
 
 -- the last chain has at most one range
-pub last-one : (kind : Kind) (l r : ℕ) (d : Direction) → length (lastRange kind l r d) ≤ 1
+pub last-one : (kind : Kind) (l r : ℕ) (d : Direction) → length (lastRange kind (piece l r d)) ≤ 1
 last-one Vertices l r d = omega arith
 last-one Edges l r d = elim (decLt (l + 1) r) [
   | yes p ↦ rw (lt-ltb (l + 1) r p) (omega arith)
@@ -56,7 +56,7 @@ within-append m (r ∷ a) b h i = (h .0, h .1, within-append m a b (h .2) i)
 
 module _ {n root : ℕ} {A : ℕ → List ℕ} {t : Six} {kids : ℕ → List ℕ} (G : Given n A root t kids) (kind : Kind) where
   -- the range of a vertex's chain, from its head to the vertex
-  head-within : (d : Direction) {x : ℕ} → x < n → Within (lastEnd kind n) (chainRange kind (idIn t (headIn t x)) (idIn t x + 1) d ∷ [])
+  head-within : (d : Direction) {x : ℕ} → x < n → Within (lastEnd kind n) (chainRange kind (piece (idIn t (headIn t x)) (idIn t x + 1) d) ∷ [])
   head-within d {x} hx =
       let i = head-first (G .tables .numbering) hx in
       let b = id-below (G .tables .numbering .arrangement) hx in
@@ -65,7 +65,7 @@ module _ {n root : ℕ} {A : ℕ → List ℕ} {t : Six} {kids : ℕ → List �
   -- the range of the last chain, from a vertex to one below it
   one-within :
       (d : Direction) {x y : ℕ} → x < n → y < n → headIn t x ≡ headIn t y → depthIn t x ≤ depthIn t y
-      → Within (lastEnd kind n) (lastRange kind (idIn t x) (idIn t y + 1) d)
+      → Within (lastEnd kind n) (lastRange kind (piece (idIn t x) (idIn t y + 1) d))
   one-within d {x} {y} hx hy e h =
       let g = chain-gap (G .tables .numbering) hx hy e in
       let b = id-below (G .tables .numbering .arrangement) hy in
@@ -90,7 +90,7 @@ module _ {n root : ℕ} {A : ℕ → List ℕ} {t : Six} {kids : ℕ → List �
         left = λ l hx hy d h w. let s = lights-one (G .tables .numbering) hx (deeper-head-pos (G .tables .numbering) hx hy d h) in omega arith;
         entered = λ {x} {y} l hx hy d h w.
             let s = lights-one (G .tables .numbering) hy (deeper-head-pos (G .tables .numbering) hy hx (λ e. d (sym e)) h) in
-            let a = length-append l (chainRange kind (idIn t (headIn t y)) (idIn t y + 1) Forward ∷ []) in
+            let a = length-append l (chainRange kind (piece (idIn t (headIn t y)) (idIn t y + 1) Forward) ∷ []) in
             omega arith;
       }
 

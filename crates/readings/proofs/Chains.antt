@@ -12,7 +12,7 @@ use Rattle.numbering.specs.Numbering.{Numbering}
 use Rattle.numbering.proofs.Chains.{head-anc, head-below, head-dep, head-id, par-first}
 use Rattle.numbering.proofs.Climbs.{climb-dep, climb-anc, climb-head, climb-id, chain-gap, same-head-anc}
 use Rattle.numbering.proofs.Leaves.{other-chain, deeper-head-pos}
-use Rattle.ranges.specs.Ranges.{chainRange, lastRange}
+use Rattle.ranges.specs.Ranges.{piece, chainRange, lastRange}
 use Rattle.ranges.specs.Readings.{readRange, reading}
 use Rattle.ranges.specs.declared.kinds.Direction.the-variants.{Forward, Reversed}
 use Rattle.ranges.specs.declared.kinds.Kind.{Kind}
@@ -47,7 +47,7 @@ module _
   -- a path that leaves its first chain begins with what the chain's range reads
   pub chain-left :
       {x y : ℕ} → x < n → y < n → head x ≢ head y → dep (head y) ≤ dep (head x)
-      → along x y ≡ readRange (chainRange kind (id (head x)) (id x + 1) Reversed) ++ along (par (head x)) y
+      → along x y ≡ readRange (chainRange kind (piece (id (head x)) (id x + 1) Reversed)) ++ along (par (head x)) y
   chain-left {x} {y} hx hy d h =
       let a = head-anc N hx in
       let i = head-id N hx in
@@ -60,23 +60,23 @@ module _
   -- a path that comes to its last chain ends with what the chain's range reads
   pub chain-entered :
       {x y : ℕ} → x < n → y < n → head x ≢ head y → dep (head x) ≤ dep (head y)
-      → along x y ≡ along x (par (head y)) ++ readRange (chainRange kind (id (head y)) (id y + 1) Forward)
+      → along x y ≡ along x (par (head y)) ++ readRange (chainRange kind (piece (id (head y)) (id y + 1) Forward))
   chain-entered {x} {y} hx hy d h =
       let e : head y ≢ head x = λ q. d (sym q) in
       let hp = N .arrangement .rooted .par-below (head y) (head-below N hy) (deeper-head-pos N hy hx e h) in
       rw (
         numbers-turn (N .arrangement .rooted) kind id hy hx,
         chain-left hy hx e h,
-        reverse-append (readRange (chainRange kind (id (head y)) (id y + 1) Reversed)) (along (par (head y)) x),
+        reverse-append (readRange (chainRange kind (piece (id (head y)) (id y + 1) Reversed))) (along (par (head y)) x),
         chain-turned kind (id (head y)) (id y + 1),
         numbers-turn (N .arrangement .rooted) kind id hp hx,
       )
 
   -- a path up one chain is what its last range reads
-  pub chain-last-up : {x z : ℕ} → x < n → z < n → head x ≡ head z → dep z ≤ dep x → along x z ≡ reading (lastRange kind (id z) (id x + 1) Reversed)
+  pub chain-last-up : {x z : ℕ} → x < n → z < n → head x ≡ head z → dep z ≤ dep x → along x z ≡ reading (lastRange kind (piece (id z) (id x + 1) Reversed))
   chain-last-up {x} {z} hx hz e h = let a = same-head-anc N hz hx (sym e) h in go (a .0) (a .1) (a .2)
     where
-      go : (k : ℕ) → k + dep z ≡ dep x → climb par k x ≡ z → along x z ≡ reading (lastRange kind (id z) (id x + 1) Reversed)
+      go : (k : ℕ) → k + dep z ≡ dep x → climb par k x ≡ z → along x z ≡ reading (lastRange kind (piece (id z) (id x + 1) Reversed))
       go zero i c = rw (c, ptail-same par dep z, numbers-alone kind dep id z) (last-reads kind (id z) (id z + 1) zero (omega arith))
       go (suc k) i c =
           let q = head-dep N hz in
@@ -87,6 +87,6 @@ module _
           ∙ rw (c, ptail-same par dep z, numbers-alone kind dep id z) (last-reads kind (id z) (id x + 1) (suc k) (omega arith))
 
   -- and so is one down it
-  pub chain-last-down : {x z : ℕ} → x < n → z < n → head x ≡ head z → dep x ≤ dep z → along x z ≡ reading (lastRange kind (id x) (id z + 1) Forward)
+  pub chain-last-down : {x z : ℕ} → x < n → z < n → head x ≡ head z → dep x ≤ dep z → along x z ≡ reading (lastRange kind (piece (id x) (id z + 1) Forward))
   chain-last-down {x} {z} hx hz e h =
       rw (numbers-turn (N .arrangement .rooted) kind id hz hx, chain-last-up hz hx (sym e) h) (sym (last-turned kind (id x) (id z + 1)))

@@ -17,21 +17,21 @@ use Rattle.climb.specs.declared.places.Place.{Place}
 use Rattle.climb.specs.declared.places.Climb.{Climb}
 use Rattle.pathlaws.specs.Given.{Given, lightsIn}
 use Rattle.pathlaws.proofs.Standing.{up-below, up-parent, stand-vertex}
-use Rattle.ranges.specs.Ranges.{Found, lost, found, chainRange, lastRange, lastChain, ranging, pathRanges}
+use Rattle.ranges.specs.Ranges.{Found, lost, found, uPiece, vPiece, piece, chainRange, lastRange, lastChain, ranging, pathRanges}
 use Rattle.ranges.specs.declared.kinds.Direction.the-variants.{Forward, Reversed}
 use Rattle.ranges.specs.declared.kinds.PathRange.{PathRange}
 use Rattle.ranges.specs.declared.kinds.Kind.{Kind}
 
 -- P holds of the ranges of two vertices of one chain, and stays when the range of a chain is set in front or behind as the climb does
 pub record Kept (n : ℕ) (t : Six) (kind : Kind) (P : (u v : ℕ) → List PathRange → Type 0) : Type 0 where
-  pub up : {x y : ℕ} → x < n → y < n → headIn t x ≡ headIn t y → depthIn t y ≤ depthIn t x → P x y (lastRange kind (idIn t y) (idIn t x + 1) Reversed)
-  pub down : {x y : ℕ} → x < n → y < n → headIn t x ≡ headIn t y → depthIn t x ≤ depthIn t y → P x y (lastRange kind (idIn t x) (idIn t y + 1) Forward)
+  pub up : {x y : ℕ} → x < n → y < n → headIn t x ≡ headIn t y → depthIn t y ≤ depthIn t x → P x y (lastRange kind (piece (idIn t y) (idIn t x + 1) Reversed))
+  pub down : {x y : ℕ} → x < n → y < n → headIn t x ≡ headIn t y → depthIn t x ≤ depthIn t y → P x y (lastRange kind (piece (idIn t x) (idIn t y + 1) Forward))
   pub left :
       {x y : ℕ} (l : List PathRange) → x < n → y < n → headIn t x ≢ headIn t y → depthIn t (headIn t y) ≤ depthIn t (headIn t x)
-      → P (parentIn t (headIn t x)) y l → P x y (chainRange kind (idIn t (headIn t x)) (idIn t x + 1) Reversed ∷ l)
+      → P (parentIn t (headIn t x)) y l → P x y (chainRange kind (piece (idIn t (headIn t x)) (idIn t x + 1) Reversed) ∷ l)
   pub entered :
       {x y : ℕ} (l : List PathRange) → x < n → y < n → headIn t x ≢ headIn t y → depthIn t (headIn t x) ≤ depthIn t (headIn t y)
-      → P x (parentIn t (headIn t y)) l → P x y (l ++ (chainRange kind (idIn t (headIn t y)) (idIn t y + 1) Forward ∷ []))
+      → P x (parentIn t (headIn t y)) l → P x y (l ++ (chainRange kind (piece (idIn t (headIn t y)) (idIn t y + 1) Forward) ∷ []))
 
 -- a climb whose ends stand on x and y, after leaving a and b chains
 abbrev stage : Six → (x y a b : ℕ) → Climb
@@ -49,7 +49,7 @@ ranging-u :
     → c .v .top ≤ c .u .top
     → leaveChain n t (c .u) (c .«u_count») ≡ On p
     → ranging k kind n t (uMoved c p) ≡ found l
-    → ranging (suc k) kind n t c ≡ found (chainRange kind (c .u .first) (c .u .id + 1) Reversed ∷ l)
+    → ranging (suc k) kind n t c ≡ found (chainRange kind (uPiece c) ∷ l)
 unfolding ranging
 ranging-u k n kind t c p l d h e r = rw (ne-eqb (c .u .head) (c .v .head) d, ranging, le-leb (c .v .top) (c .u .top) h, e, r)
 
@@ -60,7 +60,7 @@ ranging-v :
     → c .u .top < c .v .top
     → leaveChain n t (c .v) (c .«v_count») ≡ On p
     → ranging k kind n t (vMoved c p) ≡ found l
-    → ranging (suc k) kind n t c ≡ found (l ++ (chainRange kind (c .v .first) (c .v .id + 1) Forward ∷ []))
+    → ranging (suc k) kind n t c ≡ found (l ++ (chainRange kind (vPiece c) ∷ []))
 unfolding ranging
 ranging-v k n kind t c p l d h e r = rw (ne-eqb (c .u .head) (c .v .head) d, ranging, lt-leb (c .v .top) (c .u .top) h, e, r)
 
@@ -108,7 +108,7 @@ module _
           let s = lights-one (G .tables .numbering) hx p in
           let up : ℕ = parentIn t (headIn t x) in
           let r = ranges k up y (a + 1) b (up-below G hx p) hy (omega arith) j (omega arith) in (
-            chainRange kind (idIn t (headIn t x)) (idIn t x + 1) Reversed ∷ r .0,
+            chainRange kind (piece (idIn t (headIn t x)) (idIn t x + 1) Reversed) ∷ r .0,
             ranging-u k n kind t (stage t x y a b) (placeOf t up) (r .0) d q (leaves a hx p (omega arith)) (r .1),
             K .left (r .0) hx hy d q (r .2),
           )
@@ -119,7 +119,7 @@ module _
           let s = lights-one (G .tables .numbering) hy p in
           let up : ℕ = parentIn t (headIn t y) in
           let r = ranges k x up a (b + 1) hx (up-below G hy p) i (omega arith) (omega arith) in (
-            r .0 ++ (chainRange kind (idIn t (headIn t y)) (idIn t y + 1) Forward ∷ []),
+            r .0 ++ (chainRange kind (piece (idIn t (headIn t y)) (idIn t y + 1) Forward) ∷ []),
             ranging-v k n kind t (stage t x y a b) (placeOf t up) (r .0) d (omega arith) (leaves b hy p (omega arith)) (r .1),
             K .entered (r .0) hx hy d g (r .2),
           )

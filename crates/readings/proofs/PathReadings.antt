@@ -9,7 +9,7 @@ use Rattle.paths.proofs.Steps.{on-below}
 use Rattle.tables.specs.Tables.{Six}
 use Rattle.climb.specs.Sound.{parentIn, depthIn, headIn, idIn}
 use Rattle.pathlaws.specs.Given.{Given, pathIn, OnIn}
-use Rattle.ranges.specs.Ranges.{found, chainRange, pathRanges}
+use Rattle.ranges.specs.Ranges.{found, piece, chainRange, pathRanges}
 use Rattle.ranges.specs.Readings.{readRange, reading}
 use Rattle.ranges.specs.declared.kinds.Direction.the-variants.{Forward}
 use Rattle.ranges.specs.declared.kinds.PathRange.{PathRange}
@@ -35,9 +35,9 @@ module _ {n root : ℕ} {A : ℕ → List ℕ} {t : Six} {kids : ℕ → List �
       entered :
           {x y : ℕ} (l : List PathRange) → x < n → y < n → headIn t x ≢ headIn t y → depthIn t (headIn t x) ≤ depthIn t (headIn t y)
           → reading l ≡ numbersIn kind t x (parentIn t (headIn t y))
-          → reading (l ++ (chainRange kind (idIn t (headIn t y)) (idIn t y + 1) Forward ∷ [])) ≡ numbersIn kind t x y
+          → reading (l ++ (chainRange kind (piece (idIn t (headIn t y)) (idIn t y + 1) Forward) ∷ [])) ≡ numbersIn kind t x y
       entered {x} {y} l hx hy d h r =
-          let c = chainRange kind (idIn t (headIn t y)) (idIn t y + 1) Forward in
+          let c = chainRange kind (piece (idIn t (headIn t y)) (idIn t y + 1) Forward) in
           rw (reading-append l (c ∷ []), append-nil (readRange c), r, chain-entered (G .tables .numbering) kind hx hy d h)
 
   -- the ranges from u to v read the numbers of the path in order

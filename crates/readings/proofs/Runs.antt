@@ -5,7 +5,7 @@ use native.Mathlib.Decide.{decLt}
 use mathlib.Core.Path.{_≡_, refl, sym, ap, _∙_}
 use mathlib.Core.List.{List, [], _∷_, _++_, reverse, append-nil, append-assoc, reverse-cons, reverse-append, reverse-reverse}
 use borrow.Author.Tests.{lt-ltb, le-ltb}
-use Rattle.ranges.specs.Ranges.{range, chainRange, lastRange}
+use Rattle.ranges.specs.Ranges.{range, piece, chainRange, lastRange}
 use Rattle.ranges.specs.Readings.{rising, readRange, reading}
 use Rattle.ranges.specs.declared.kinds.Direction.the-variants.{Forward, Reversed}
 use Rattle.ranges.specs.declared.kinds.PathRange.{PathRange}
@@ -62,13 +62,13 @@ both-fall l (suc k) h =
     rw (e, falling-cons (2 * l - 1) (suc (2 * k)), falling-cons (2 * l - 1) (2 * k), a, b, both-fall l k h)
 
 -- steps up a chain are read by its range
-pub chain-reads : (kind : Kind) (l r k : ℕ) → 1 ≤ l → l + k ≡ r → stepsUp kind l k ≡ readRange (chainRange kind l r Reversed)
+pub chain-reads : (kind : Kind) (l r k : ℕ) → 1 ≤ l → l + k ≡ r → stepsUp kind l k ≡ readRange (chainRange kind (piece l r Reversed))
 chain-reads Vertices l r k h e = let f : r - l ≡ k = omega arith in rw f (vertices-fall l k)
 chain-reads Edges l r k h e = let f : r - l ≡ k = omega arith in rw f (edges-fall l k)
 chain-reads Both l r k h e = let f : 2 * r - 1 - (2 * l - 1) ≡ 2 * k = omega arith in rw f (both-fall l k h)
 
 -- the edges below a vertex of the last chain are read by its range, which is left out where there is none
-edges-last : (l r k : ℕ) → l + suc k ≡ r → falling (suc l) k ≡ reading (lastRange Edges l r Reversed)
+edges-last : (l r k : ℕ) → l + suc k ≡ r → falling (suc l) k ≡ reading (lastRange Edges (piece l r Reversed))
 edges-last l r zero e = rw (le-ltb (l + 1) r (omega arith))
 edges-last l r (suc k) e =
     let f : suc k ≡ r - (l + 1) = omega arith in
@@ -77,7 +77,7 @@ edges-last l r (suc k) e =
     (ap (λ (i : ℕ). falling i (suc k)) g ∙ ap (falling (l + 1)) f ∙ sym (append-nil (falling (l + 1) (r - (l + 1)))))
 
 -- steps up the last chain, and the vertex where they end, are read by its range
-pub last-reads : (kind : Kind) (l r k : ℕ) → l + suc k ≡ r → stepsUp kind (suc l) k ++ alone kind l ≡ reading (lastRange kind l r Reversed)
+pub last-reads : (kind : Kind) (l r k : ℕ) → l + suc k ≡ r → stepsUp kind (suc l) k ++ alone kind l ≡ reading (lastRange kind (piece l r Reversed))
 last-reads Vertices l r k e =
     let f : r - l ≡ suc k = omega arith in
     rw (f, vertices-fall (suc l) k, append-nil (falling l (suc k))) (sym (reverse-cons l (rising (suc l) k)))
@@ -92,22 +92,22 @@ pub reading-append : (a b : List PathRange) → reading (a ++ b) ≡ reading a +
 reading-append [] b = refl
 reading-append (r ∷ a) b = rw (reading-append a b, append-assoc (readRange r) (reading a) (reading b))
 
--- forward, a range reads the other way round
-one-turned : (l r : ℕ) → reading (range l r Forward ∷ []) ≡ reverse (reading (range l r Reversed ∷ []))
-one-turned l r =
-    append-nil (rising l (r - l)) ∙ sym (reverse-reverse (rising l (r - l))) ∙ ap reverse (sym (append-nil (falling l (r - l))))
+-- forward, a range of a piece reads the other way round
+one-turned : (i j l r : ℕ) → reading (range i j (piece l r Forward) ∷ []) ≡ reverse (reading (range i j (piece l r Reversed) ∷ []))
+one-turned i j l r =
+    append-nil (rising i (j - i)) ∙ sym (reverse-reverse (rising i (j - i))) ∙ ap reverse (sym (append-nil (falling i (j - i))))
 
 -- so does the range of a chain
-pub chain-turned : (kind : Kind) (l r : ℕ) → readRange (chainRange kind l r Forward) ≡ reverse (readRange (chainRange kind l r Reversed))
+pub chain-turned : (kind : Kind) (l r : ℕ) → readRange (chainRange kind (piece l r Forward)) ≡ reverse (readRange (chainRange kind (piece l r Reversed)))
 chain-turned Vertices l r = sym (reverse-reverse (rising l (r - l)))
 chain-turned Edges l r = sym (reverse-reverse (rising l (r - l)))
 chain-turned Both l r = sym (reverse-reverse (rising (2 * l - 1) (2 * r - 1 - (2 * l - 1))))
 
 -- and that of the last chain
-pub last-turned : (kind : Kind) (l r : ℕ) → reading (lastRange kind l r Forward) ≡ reverse (reading (lastRange kind l r Reversed))
-last-turned Vertices l r = one-turned l r
+pub last-turned : (kind : Kind) (l r : ℕ) → reading (lastRange kind (piece l r Forward)) ≡ reverse (reading (lastRange kind (piece l r Reversed)))
+last-turned Vertices l r = one-turned l r l r
 last-turned Edges l r = elim (decLt (l + 1) r) [
-  | yes h ↦ rw (lt-ltb (l + 1) r h) (one-turned (l + 1) r)
+  | yes h ↦ rw (lt-ltb (l + 1) r h) (one-turned (l + 1) r l r)
   | no q ↦ rw (le-ltb (l + 1) r (omega arith))
 ]
-last-turned Both l r = one-turned (2 * l) (2 * r - 1)
+last-turned Both l r = one-turned (2 * l) (2 * r - 1) l r

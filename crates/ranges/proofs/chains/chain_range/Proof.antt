@@ -8,44 +8,56 @@ use Rattle.ranges.proofs.chains.chain_range.Tie as tie
 enum-told : tie.Need-enum-told
 enum-told c = search needs
 
+range-of-requires : tie.Need-range-of-requires
+range-of-requires c κs = search needs
+
 enum-told-2 : tie.Need-enum-told-2
 enum-told-2 c = search needs
+
+range-of-requires-2 : tie.Need-range-of-requires-2
+range-of-requires-2 c κs = search needs
 
 enum-told-3 : tie.Need-enum-told-3
 enum-told-3 c = search needs
 
-mul-t6 : tie.Need-mul-t6
-mul-t6 c = omega (arith, vertices-small)
+mul-range-of : tie.Need-mul-range-of
+mul-range-of c = omega (arith, vertices-small)
 
-sub-t7 : tie.Need-sub-t7
-sub-t7 c = search needs
+sub-range-of : tie.Need-sub-range-of
+sub-range-of c = search needs
 
-mul-t8 : tie.Need-mul-t8
-mul-t8 c = omega (arith, vertices-small)
+mul-range-of-2 : tie.Need-mul-range-of-2
+mul-range-of-2 c = omega (arith, vertices-small)
 
-sub-t9 : tie.Need-sub-t9
-sub-t9 c = search needs
+sub-range-of-2 : tie.Need-sub-range-of-2
+sub-range-of-2 c = search needs
+
+range-of-requires-3 : tie.Need-range-of-requires-3
+range-of-requires-3 c κs = search needs
 
 returns : tie.Need-returns
-returns c = rw (c .enum-told .given .1)
+returns c = rw (c .before .enum-told .given .1) (c .range-of .ensures)
 
 returns-2 : tie.Need-returns-2
-returns-2 c = rw (c .enum-told2 .given .1)
+returns-2 c = rw (c .before .enum-told2 .given .1) (c .range-of2 .ensures)
 
 returns-3 : tie.Need-returns-3
-returns-3 c = rw (c .enum-told3 .given .1)
+returns-3 c = rw (c .before .enum-told3 .given .1) (c .range-of3 .ensures)
 
 pub chain-range-spec : {M : Type 1} → statement M
 chain-range-spec =
     tie.close
     (tie.spec
     enum-told
+    range-of-requires
     enum-told-2
+    range-of-requires-2
     enum-told-3
-    mul-t6
-    sub-t7
-    mul-t8
-    sub-t9
+    mul-range-of
+    sub-range-of
+    mul-range-of-2
+    sub-range-of-2
+    range-of-requires-3
     returns
     returns-2
     returns-3)

@@ -1,36 +1,20 @@
--- `chains::last_chain` meets its contract: the range lies between the numbers of both ends.
+-- `chains::last_chain` meets its contract: the piece of the last chain has a number.
 use borrow.Author.Needs.{needs}
-use native.Mathlib.Omega.{arith}
-use borrow.Author.Tests.{lt-ltb, le-ltb}
-use Rattle.answers.proofs.Bounds.{vertices-small}
+use mathlib.Core.Path.{sym, ap, subst, _∙_}
+use Rattle.ranges.specs.Ranges.{lastRange}
+use Rattle.ranges.specs.Inner.{Numbers}
+use Rattle.ranges.proofs.Numbered.{last-numbers}
 use Rattle.ranges.proofs.chains.last_chain.Statement.{statement}
 use Rattle.ranges.proofs.chains.last_chain.Tie as tie
 
-add-last-range : tie.Need-add-last-range
-add-last-range c = omega (arith, vertices-small)
+last-piece-requires : tie.Need-last-piece-requires
+last-piece-requires c κs = search needs
 
 last-range-requires : tie.Need-last-range-requires
-last-range-requires c κs = search needs
+last-range-requires c κs = subst Numbers (sym (c .last-piece .ensures)) (last-numbers _ (c .before .pre))
 
 returns : tie.Need-returns
-returns c = rw (lt-ltb _ _ (c .before .if1 .taken)) (c .last-range .ensures)
-
-add-last-range-2 : tie.Need-add-last-range-2
-add-last-range-2 c = omega (arith, vertices-small)
-
-last-range-requires-2 : tie.Need-last-range-requires-2
-last-range-requires-2 c κs = search needs
-
-returns-2 : tie.Need-returns-2
-returns-2 c = rw (le-ltb _ _ (c .before .if1 .left)) (c .last-range2 .ensures)
+returns c = c .last-range .ensures ∙ ap (lastRange (c .before .before .args .kind)) (c .before .last-piece .ensures)
 
 pub last-chain-spec : {M : Type 1} → statement M
-last-chain-spec =
-    tie.close
-    (tie.spec
-    add-last-range
-    last-range-requires
-    returns
-    add-last-range-2
-    last-range-requires-2
-    returns-2)
+last-chain-spec = tie.close (tie.spec last-piece-requires last-range-requires returns)

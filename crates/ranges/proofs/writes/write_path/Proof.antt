@@ -2,14 +2,15 @@
 use borrow.Author.Needs.{needs}
 use borrow.Author.Tests.{not-true, not-false}
 use native.Mathlib.Omega.{arith}
-use mathlib.Core.Path.{_∙_}
+use mathlib.Core.Path.{sym, ap, subst, _∙_}
 use Prim.Native.Nat.{ℕ}
 use mathlib.Core.List.{List, []}
 use lib.ListN.{length}
 use Rattle.numbering.specs.Log.{log2}
-use Rattle.answers.proofs.Bounds.{vertices-small}
 use Rattle.tables.specs.Tables.{six}
 use Rattle.climb.proofs.Going.{chainsLeft, u-word, v-word, going-u-less, going-v-less}
+use Rattle.ranges.specs.Ranges.{chainRange}
+use Rattle.ranges.specs.Inner.{Chain}
 use Rattle.ranges.proofs.Writing.{Writing, stands-u, stands-v, writing-start, u-never, u-chain, u-slot, writing-u, v-never, v-room, v-chain, v-slot, writing-v, writing-ends, last-slot, writing-done}
 use Rattle.ranges.proofs.writes.write_path.Statement.{statement}
 use Rattle.ranges.proofs.writes.write_path.Tie as tie
@@ -47,14 +48,14 @@ same-length c = c .before .before .before .before .before .before .before .loop 
 returns-3 : tie.Need-returns-3 Inv-loop μ-loop
 returns-3 c = absurd (u-never _ _ _ _ _ _ _ _ (c .before .before .before .before .before .before .before .loop .inv [] []) (c .before .before .before .before .before .if3 .taken) (c .before .before .before .if4 .taken) (c .before .before .leave-chain .ensures) (not-true _ (c .if5 .taken)))
 
-add-chain-range : tie.Need-add-chain-range Inv-loop μ-loop
-add-chain-range c = omega (arith, vertices-small, writing-ends _ _ _ _ _ _ _ _ (c .before .before .before .before .before .before .before .before .loop .inv [] []) (c .before .before .before .before .before .before .before .before .before .before .before .before .before .before .before .before .before .before .before .before .before .pre .climbs .small) .u)
+u-piece-requires : tie.Need-u-piece-requires Inv-loop μ-loop
+u-piece-requires c κs = writing-ends _ _ _ _ _ _ _ _ (c .before .before .before .before .before .before .before .loop .inv [] []) (c .before .before .before .before .before .before .before .before .before .before .before .before .before .before .before .before .before .before .before .before .pre .climbs .small)
 
 chain-range-requires : tie.Need-chain-range-requires Inv-loop μ-loop
-chain-range-requires c κs = u-chain _ _ _ _ _ _ _ _ (c .before .before .before .before .before .before .before .before .loop .inv [] []) (c .before .before .before .before .before .before .if3 .taken) (c .before .before .before .before .if4 .taken) (c .before .before .before .leave-chain .ensures) (not-false _ (c .before .if5 .left)) (c .before .before .before .before .before .before .before .before .before .before .before .before .before .before .before .before .before .before .before .before .before .pre .climbs .small)
+chain-range-requires c κs = subst Chain (sym (c .u-piece .ensures)) (u-chain _ _ _ _ _ _ _ _ (c .before .before .before .before .before .before .before .before .loop .inv [] []) (c .before .before .before .before .before .before .if3 .taken) (c .before .before .before .before .if4 .taken) (c .before .before .before .leave-chain .ensures) (not-false _ (c .before .if5 .left)) (c .before .before .before .before .before .before .before .before .before .before .before .before .before .before .before .before .before .before .before .before .before .pre .climbs .small))
 
 write-range-requires : tie.Need-write-range-requires Inv-loop μ-loop
-write-range-requires c κs = u-slot _ _ _ _ _ _ _ _ (c .before .before .before .before .before .before .before .before .before .before .loop .inv [] []) (c .before .before .before .before .before .before .before .before .if3 .taken) (c .before .before .before .before .before .before .if4 .taken) (c .before .before .before .before .before .leave-chain .ensures) (not-false _ (c .before .before .before .if5 .left)) (c .before .before .before .before .before .before .before .before .before .before .before .before .before .before .before .before .before .before .before .before .before .before .before .pre .climbs .small) (c .before .before .before .before .before .before .before .before .before .before .before .before .before .before .before .before .before .before .before .before .before .before .before .pre .room) (c .before .chain-range .ensures)
+write-range-requires c κs = u-slot _ _ _ _ _ _ _ _ (c .before .before .before .before .before .before .before .before .before .before .loop .inv [] []) (c .before .before .before .before .before .before .before .before .if3 .taken) (c .before .before .before .before .before .before .if4 .taken) (c .before .before .before .before .before .leave-chain .ensures) (not-false _ (c .before .before .before .if5 .left)) (c .before .before .before .before .before .before .before .before .before .before .before .before .before .before .before .before .before .before .before .before .before .before .before .pre .climbs .small) (c .before .before .before .before .before .before .before .before .before .before .before .before .before .before .before .before .before .before .before .before .before .before .before .pre .room) (c .before .chain-range .ensures ∙ ap (chainRange (c .before .before .before .before .before .before .before .before .before .before .before .before .before .before .before .before .before .before .before .before .before .before .before .args .kind)) (c .before .before .u-piece .ensures))
 
 u-moved-requires : tie.Need-u-moved-requires Inv-loop μ-loop
 u-moved-requires c κs = omega (arith, u-word _ _ _ _ _ _ _ _ (c .before .before .before .before .before .before .before .before .before .before .before .before .before .loop .inv [] [] .going) (omega (arith, c .before .before .before .before .before .before .before .before .before .before .before .before .before .before .before .before .before .before .before .before .before .before .before .before .before .before .good)))
@@ -63,7 +64,7 @@ loop-less : tie.Need-loop-less Inv-loop μ-loop
 loop-less c = going-u-less _ _ _ _ _ _ _ _ (c .before .before .before .before .before .before .before .before .before .before .before .before .before .before .loop .inv [] [] .going) (c .before .before .before .before .before .before .before .before .before .before .before .before .if3 .taken) (c .before .before .before .before .before .before .before .before .before .before .if4 .taken) (c .before .before .before .before .before .before .before .before .before .leave-chain .ensures) (not-false _ (c .before .before .before .before .before .before .before .if5 .left)) (c .u-moved .ensures)
 
 loop-again : tie.Need-loop-again Inv-loop μ-loop
-loop-again c = λ o s. writing-u _ _ _ _ _ _ _ _ (c .before .before .before .before .before .before .before .before .before .before .before .before .before .before .loop .inv o s) (c .before .before .before .before .before .before .before .before .before .before .before .before .if3 .taken) (c .before .before .before .before .before .before .before .before .before .before .if4 .taken) (c .before .before .before .before .before .before .before .before .before .leave-chain .ensures) (not-false _ (c .before .before .before .before .before .before .before .if5 .left)) (c .u-moved .ensures) (c .before .before .before .before .before .chain-range .ensures) (c .before .before .before .write-range .ensures)
+loop-again c = λ o s. writing-u _ _ _ _ _ _ _ _ (c .before .before .before .before .before .before .before .before .before .before .before .before .before .before .loop .inv o s) (c .before .before .before .before .before .before .before .before .before .before .before .before .if3 .taken) (c .before .before .before .before .before .before .before .before .before .before .if4 .taken) (c .before .before .before .before .before .before .before .before .before .leave-chain .ensures) (not-false _ (c .before .before .before .before .before .before .before .if5 .left)) (c .u-moved .ensures) (c .before .before .before .before .before .chain-range .ensures ∙ ap (chainRange (c .before .before .before .before .before .before .before .before .before .before .before .before .before .before .before .before .before .before .before .before .before .before .before .before .before .before .before .args .kind)) (c .before .before .before .before .before .before .u-piece .ensures)) (c .before .before .before .write-range .ensures)
 
 leave-chain-requires-2 : tie.Need-leave-chain-requires-2 Inv-loop μ-loop
 leave-chain-requires-2 c κs = record { rests = record { even = c .before .before .before .before .before .before .before .before .before .before .before .before .before .before .before .before .before .pre .climbs .even; seat = c .before .before .before .before .loop .inv [] [] .going .v-seat }; few = v-word _ _ _ _ _ _ _ _ (c .before .before .before .before .loop .inv [] [] .going) (omega (arith, c .before .before .before .before .before .before .before .before .before .before .before .before .before .before .before .before .before .good)) }
@@ -74,11 +75,11 @@ same-length-2 c = c .before .before .before .before .before .before .before .loo
 returns-4 : tie.Need-returns-4 Inv-loop μ-loop
 returns-4 c = absurd (v-never _ _ _ _ _ _ _ _ (c .before .before .before .before .before .before .before .loop .inv [] []) (c .before .before .before .before .before .if3 .taken) (c .before .before .before .if4 .left) (c .before .before .leave-chain2 .ensures) (not-true _ (c .if6 .taken)))
 
-add-chain-range-2 : tie.Need-add-chain-range-2 Inv-loop μ-loop
-add-chain-range-2 c = omega (arith, vertices-small, writing-ends _ _ _ _ _ _ _ _ (c .before .before .before .before .before .before .before .before .loop .inv [] []) (c .before .before .before .before .before .before .before .before .before .before .before .before .before .before .before .before .before .before .before .before .before .pre .climbs .small) .v)
+v-piece-requires : tie.Need-v-piece-requires Inv-loop μ-loop
+v-piece-requires c κs = writing-ends _ _ _ _ _ _ _ _ (c .before .before .before .before .before .before .before .loop .inv [] []) (c .before .before .before .before .before .before .before .before .before .before .before .before .before .before .before .before .before .before .before .before .pre .climbs .small)
 
 chain-range-requires-2 : tie.Need-chain-range-requires-2 Inv-loop μ-loop
-chain-range-requires-2 c κs = v-chain _ _ _ _ _ _ _ _ (c .before .before .before .before .before .before .before .before .loop .inv [] []) (c .before .before .before .before .before .before .if3 .taken) (c .before .before .before .before .if4 .left) (c .before .before .before .leave-chain2 .ensures) (not-false _ (c .before .if6 .left)) (c .before .before .before .before .before .before .before .before .before .before .before .before .before .before .before .before .before .before .before .before .before .pre .climbs .small)
+chain-range-requires-2 c κs = subst Chain (sym (c .v-piece .ensures)) (v-chain _ _ _ _ _ _ _ _ (c .before .before .before .before .before .before .before .before .loop .inv [] []) (c .before .before .before .before .before .before .if3 .taken) (c .before .before .before .before .if4 .left) (c .before .before .before .leave-chain2 .ensures) (not-false _ (c .before .if6 .left)) (c .before .before .before .before .before .before .before .before .before .before .before .before .before .before .before .before .before .before .before .before .before .pre .climbs .small))
 
 sub-write-range : tie.Need-sub-write-range Inv-loop μ-loop
 sub-write-range c = omega (arith, v-room _ _ _ _ _ _ _ _ (c .before .before .before .before .before .before .before .before .before .before .loop .inv [] []) (c .before .before .before .before .before .before .before .before .if3 .taken) (c .before .before .before .before .before .before .if4 .left) (c .before .before .before .before .before .leave-chain2 .ensures) (not-false _ (c .before .before .before .if6 .left)))
@@ -87,7 +88,7 @@ sub-write-range-2 : tie.Need-sub-write-range-2 Inv-loop μ-loop
 sub-write-range-2 c = omega (arith, v-room _ _ _ _ _ _ _ _ (c .before .before .before .before .before .before .before .before .before .before .before .loop .inv [] []) (c .before .before .before .before .before .before .before .before .before .if3 .taken) (c .before .before .before .before .before .before .before .if4 .left) (c .before .before .before .before .before .before .leave-chain2 .ensures) (not-false _ (c .before .before .before .before .if6 .left)))
 
 write-range-requires-2 : tie.Need-write-range-requires-2 Inv-loop μ-loop
-write-range-requires-2 c κs = v-slot _ _ _ _ _ _ _ _ (c .before .before .before .before .before .before .before .before .before .before .before .loop .inv [] []) (c .before .before .before .before .before .before .before .before .before .if3 .taken) (c .before .before .before .before .before .before .before .if4 .left) (c .before .before .before .before .before .before .leave-chain2 .ensures) (not-false _ (c .before .before .before .before .if6 .left)) (c .before .before .before .before .before .before .before .before .before .before .before .before .before .before .before .before .before .before .before .before .before .before .before .before .pre .climbs .small) (c .before .before .before .before .before .before .before .before .before .before .before .before .before .before .before .before .before .before .before .before .before .before .before .before .pre .room) (c .before .before .chain-range2 .ensures)
+write-range-requires-2 c κs = v-slot _ _ _ _ _ _ _ _ (c .before .before .before .before .before .before .before .before .before .before .before .loop .inv [] []) (c .before .before .before .before .before .before .before .before .before .if3 .taken) (c .before .before .before .before .before .before .before .if4 .left) (c .before .before .before .before .before .before .leave-chain2 .ensures) (not-false _ (c .before .before .before .before .if6 .left)) (c .before .before .before .before .before .before .before .before .before .before .before .before .before .before .before .before .before .before .before .before .before .before .before .before .pre .climbs .small) (c .before .before .before .before .before .before .before .before .before .before .before .before .before .before .before .before .before .before .before .before .before .before .before .before .pre .room) (c .before .before .chain-range2 .ensures ∙ ap (chainRange (c .before .before .before .before .before .before .before .before .before .before .before .before .before .before .before .before .before .before .before .before .before .before .before .before .args .kind)) (c .before .before .before .v-piece .ensures))
 
 v-moved-requires : tie.Need-v-moved-requires Inv-loop μ-loop
 v-moved-requires c κs = omega (arith, v-word _ _ _ _ _ _ _ _ (c .before .before .before .before .before .before .before .before .before .before .before .before .before .before .loop .inv [] [] .going) (omega (arith, c .before .before .before .before .before .before .before .before .before .before .before .before .before .before .before .before .before .before .before .before .before .before .before .before .before .before .before .good)))
@@ -96,7 +97,7 @@ loop-less-2 : tie.Need-loop-less-2 Inv-loop μ-loop
 loop-less-2 c = going-v-less _ _ _ _ _ _ _ _ (c .before .before .before .before .before .before .before .before .before .before .before .before .before .before .before .loop .inv [] [] .going) (c .before .before .before .before .before .before .before .before .before .before .before .before .before .if3 .taken) (c .before .before .before .before .before .before .before .before .before .before .before .if4 .left) (c .before .before .before .before .before .before .before .before .before .before .leave-chain2 .ensures) (not-false _ (c .before .before .before .before .before .before .before .before .if6 .left)) (c .v-moved .ensures)
 
 loop-again-2 : tie.Need-loop-again-2 Inv-loop μ-loop
-loop-again-2 c = λ o s. writing-v _ _ _ _ _ _ _ _ (c .before .before .before .before .before .before .before .before .before .before .before .before .before .before .before .loop .inv o s) (c .before .before .before .before .before .before .before .before .before .before .before .before .before .if3 .taken) (c .before .before .before .before .before .before .before .before .before .before .before .if4 .left) (c .before .before .before .before .before .before .before .before .before .before .leave-chain2 .ensures) (not-false _ (c .before .before .before .before .before .before .before .before .if6 .left)) (c .v-moved .ensures) (c .before .before .before .before .before .before .chain-range2 .ensures) (c .before .before .before .write-range2 .ensures)
+loop-again-2 c = λ o s. writing-v _ _ _ _ _ _ _ _ (c .before .before .before .before .before .before .before .before .before .before .before .before .before .before .before .loop .inv o s) (c .before .before .before .before .before .before .before .before .before .before .before .before .before .if3 .taken) (c .before .before .before .before .before .before .before .before .before .before .before .if4 .left) (c .before .before .before .before .before .before .before .before .before .before .leave-chain2 .ensures) (not-false _ (c .before .before .before .before .before .before .before .before .if6 .left)) (c .v-moved .ensures) (c .before .before .before .before .before .before .chain-range2 .ensures ∙ ap (chainRange (c .before .before .before .before .before .before .before .before .before .before .before .before .before .before .before .before .before .before .before .before .before .before .before .before .before .before .before .before .args .kind)) (c .before .before .before .before .before .before .before .v-piece .ensures)) (c .before .before .before .write-range2 .ensures)
 
 last-chain-requires : tie.Need-last-chain-requires Inv-loop μ-loop
 last-chain-requires c κs = writing-ends _ _ _ _ _ _ _ _ (c .before .before .before .loop .inv [] []) (c .before .before .before .before .before .before .before .before .before .before .before .before .before .before .before .before .pre .climbs .small)
@@ -125,7 +126,7 @@ write-path-spec =
     leave-chain-requires
     same-length
     returns-3
-    add-chain-range
+    u-piece-requires
     chain-range-requires
     write-range-requires
     u-moved-requires
@@ -134,7 +135,7 @@ write-path-spec =
     leave-chain-requires-2
     same-length-2
     returns-4
-    add-chain-range-2
+    v-piece-requires
     chain-range-requires-2
     sub-write-range
     sub-write-range-2
