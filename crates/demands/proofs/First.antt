@@ -22,7 +22,8 @@ use Rattle.answers.specs.declared.answer.Answer.the-variants.{Is, TooFar, Refus
 use Rattle.answers.specs.declared.answer.Interval.{Interval}
 use Rattle.answers.specs.declared.answer.Interval.the-variants.{Between, Refused as NoInterval}
 use Rattle.answers.proofs.Choices.{pick-true, pick-false}
-use Rattle.ranges.specs.Calls.{Answered, refused, listed, flat}
+use Rattle.ranges.specs.Flat.{stride, flat}
+use Rattle.ranges.specs.Calls.{Answered, refused, listed}
 use Rattle.ranges.specs.Inner.{ListedAs}
 use Rattle.ranges.proofs.Slots.{flat-length}
 use Rattle.ranges.specs.declared.kinds.PathRange.{PathRange}
@@ -90,7 +91,7 @@ refusals = record {
   component-lists = λ p. p .code;
   size-first = λ t vs refused answer e. rw e;
   vertex-next = λ t vs refused answer e f. rw (e, f);
-  ranges-room = λ {l} {lent} p. short-list (3 * length l) (length lent) (length l) (p .answer);
+  ranges-room = λ {l} {lent} p. short-list (stride * length l) (length lent) (length l) (p .answer);
   records-room = λ {l} {lent} p. short-list (length l) (length lent) (length l) (p .answer);
   no-number = number-free;
   no-interval = interval-free;
@@ -100,7 +101,7 @@ refusals = record {
 -- ranges that are refused leave the list alone
 ranges-kept : (a : Answered) {lent left : List ℕ} {r : Listed} → ListedAs a lent left r → listedCode r ≢ done → left ≡ lent
 ranges-kept (refused x) p h = p .list
-ranges-kept (listed l) {lent} p h = kept (written-or-not (3 * length l) (length lent) (length l) (p .answer) (p .list)) h
+ranges-kept (listed l) {lent} p h = kept (written-or-not (stride * length l) (length lent) (length l) (p .answer) (p .list)) h
 
 -- and so with records
 records-kept : (a : Answered) {lent left : List PathRange} {r : Listed} → RecordedAs a lent left r → listedCode r ≢ done → left ≡ lent
@@ -108,11 +109,11 @@ records-kept (refused x) p h = p .list
 records-kept (listed l) {lent} p h = kept (written-or-not (length l) (length lent) (length l) (p .answer) (p .list)) h
 
 -- past the ranges the list is as it was
-ranges-past : (a : Answered) {lent left : List ℕ} {k : ℕ} → ListedAs a lent left (Count k) → drop (3 * k) left ≡ drop (3 * k) lent
+ranges-past : (a : Answered) {lent left : List ℕ} {k : ℕ} → ListedAs a lent left (Count k) → drop (stride * k) left ≡ drop (stride * k) lent
 ranges-past (refused x) p = let e = p .answer in let z : _≡_ {A = ℕ} 0 1 = cc in absurd (omega arith)
 ranges-past (listed l) {lent} {left} {k} p =
-    let c = counted (written-or-not (3 * length l) (length lent) (length l) (p .answer) (p .list)) refl in
-    rw (c .0, c .1) (drop-at (flat l) (drop (3 * length l) lent) (3 * length l) (flat-length l))
+    let c = counted (written-or-not (stride * length l) (length lent) (length l) (p .answer) (p .list)) refl in
+    rw (c .0, c .1) (drop-at (flat l) (drop (stride * length l) lent) (stride * length l) (flat-length l))
 
 -- and so with records
 records-past : (a : Answered) {lent left : List PathRange} {k : ℕ} → RecordedAs a lent left (Count k) → drop k left ≡ drop k lent

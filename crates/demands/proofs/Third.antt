@@ -18,7 +18,8 @@ use Rattle.answers.proofs.Choices.{pick-true}
 use Rattle.pathlaws.specs.Given.{Given}
 use Rattle.pathlaws.proofs.Lca.{lca-common, lca-any-order}
 use Rattle.pathlaws.proofs.SimplePaths.{lca-simple}
-use Rattle.ranges.specs.Calls.{Answered, rangesOf, rangeRoom, flat}
+use Rattle.ranges.specs.Flat.{stride, flat}
+use Rattle.ranges.specs.Calls.{Answered, rangesOf, rangeRoom}
 use Rattle.ranges.specs.Inner.{ListedAs}
 use Rattle.ranges.specs.declared.kinds.PathRange.{PathRange}
 use Rattle.ranges.specs.declared.kinds.Kind.the-variants.{Vertices}
@@ -50,15 +51,16 @@ module _ {n root : ℕ} {A : ℕ → List ℕ} {t : Six} {kids : ℕ → List �
 
   -- a list of that room holds them all
   list-whole :
-      {u v : ℕ} → u < n → v < n → {lent left : List ℕ} {r : Listed} → ListedAs (rangesOf Vertices t u v) lent left r → 3 * (2 * log2 n + 1) ≤ length lent
-      → (l : List PathRange) × Ranges t u v l × (r ≡ Count (length l)) × (left ≡ flat l ++ drop (3 * length l) lent)
+      {u v : ℕ} → u < n → v < n → {lent left : List ℕ} {r : Listed} → ListedAs (rangesOf Vertices t u v) lent left r
+      → stride * (2 * log2 n + 1) ≤ length lent
+      → (l : List PathRange) × Ranges t u v l × (r ≡ Count (length l)) × (left ≡ flat l ++ drop (stride * length l) lent)
   list-whole hu hv {lent} {left} {r} p h =
       let f = ranges-there G Vertices hu hv in
       let l : List PathRange = f .0 in
       let few = ranges-few hu hv (f .1) in
       let q = subst (λ (b : Answered). ListedAs b lent left r) (f .1) p in
-      let e = le-leb (3 * length l) (length lent) (omega arith) in
-      (l, f .1, q .answer ∙ pick-true (Count (length l)) (Refused NoRoom) e, q .list ∙ pick-true (flat l ++ drop (3 * length l) lent) lent e)
+      let e = le-leb (stride * length l) (length lent) (omega arith) in
+      (l, f .1, q .answer ∙ pick-true (Count (length l)) (Refused NoRoom) e, q .list ∙ pick-true (flat l ++ drop (stride * length l) lent) lent e)
 
   -- so does a slice of records
   record-whole :

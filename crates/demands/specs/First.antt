@@ -23,6 +23,7 @@ use Rattle.answers.specs.declared.answer.Refusal.{Refusal}
 use Rattle.answers.specs.declared.answer.Refusal.the-variants.{BadSize, BadVertex}
 use Rattle.answers.specs.declared.answer.Answer.{Answer}
 use Rattle.answers.specs.declared.answer.Interval.{Interval}
+use Rattle.ranges.specs.Flat.{stride}
 use Rattle.ranges.specs.Calls.{Answered, listed}
 use Rattle.ranges.specs.Inner.{ListedAs}
 use Rattle.ranges.specs.declared.kinds.PathRange.{PathRange}
@@ -47,7 +48,8 @@ pub record Refusals : Type 1 where
       → asked t vs refused answer ≡ refused BadVertex
   -- "2 for lists is last": given to ranges that were found exactly if the list is too short for them
   pub ranges-room :
-      {l : List PathRange} {lent left : List ℕ} {r : Listed} → ListedAs (listed l) lent left r → (listedCode r ≡ noRoom) ↔ (length lent < 3 * length l)
+      {l : List PathRange} {lent left : List ℕ} {r : Listed} → ListedAs (listed l) lent left r
+      → (listedCode r ≡ noRoom) ↔ (length lent < stride * length l)
   pub records-room :
       {l lent left : List PathRange} {r : Listed} → RecordedAs (listed l) lent left r → (listedCode r ≡ noRoom) ↔ (length lent < length l)
   -- "A refused call returns its code and no other number."
@@ -66,7 +68,7 @@ pub record NothingWritten : Type 1 where
 
 -- "Entries of a list past its count are unchanged."
 pub record PastCount : Type 0 where
-  pub ranges : {a : Answered} {lent left : List ℕ} {k : ℕ} → ListedAs a lent left (Count k) → drop (3 * k) left ≡ drop (3 * k) lent
+  pub ranges : {a : Answered} {lent left : List ℕ} {k : ℕ} → ListedAs a lent left (Count k) → drop (stride * k) left ≡ drop (stride * k) lent
   pub range-records : {a : Answered} {lent left : List PathRange} {k : ℕ} → RecordedAs a lent left (Count k) → drop k left ≡ drop k lent
   -- the last of the n+1 starts is the number of entries
   pub component-lists :

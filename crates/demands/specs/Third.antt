@@ -15,7 +15,8 @@ use Rattle.tables.specs.Tables.{Six}
 use Rattle.hld.specs.Build.{Builds}
 use Rattle.queries.specs.Queries.{lca}
 use Rattle.answers.specs.declared.answer.Answer.the-variants.{Is}
-use Rattle.ranges.specs.Calls.{listed, rangesOf, rangeRoom, flat}
+use Rattle.ranges.specs.Flat.{stride, flat}
+use Rattle.ranges.specs.Calls.{listed, rangesOf, rangeRoom}
 use Rattle.ranges.specs.Inner.{ListedAs}
 use Rattle.ranges.specs.Readings.{reading}
 use Rattle.ranges.specs.declared.kinds.PathRange.{PathRange}
@@ -60,11 +61,11 @@ pub record Routes (n : ℕ) (A : ℕ → List ℕ) (t : Six) : Type 0 where
   pub few : {u v : ℕ} → u < n → v < n → {l : List PathRange} → Ranges t u v l → length l ≤ 2 * log2 n + 1
   -- which is the number that `range_room` answers
   pub room : rangeRoom n ≡ Is (2 * log2 n + 1)
-  -- in a list with that room `vertex_path_ranges` writes them, three numbers to a range, and answers how many they are
+  -- in a list with that room `vertex_path_ranges` writes them, `stride` numbers to a range, and answers how many they are
   pub listed-whole :
       {u v : ℕ} → u < n → v < n → {lent left : List ℕ} {r : Listed} → ListedAs (rangesOf Vertices t u v) lent left r
-      → 3 * (2 * log2 n + 1) ≤ length lent
-      → (l : List PathRange) × Ranges t u v l × (r ≡ Count (length l)) × (left ≡ flat l ++ drop (3 * length l) lent)
+      → stride * (2 * log2 n + 1) ≤ length lent
+      → (l : List PathRange) × Ranges t u v l × (r ≡ Count (length l)) × (left ≡ flat l ++ drop (stride * length l) lent)
   -- and `vertex_path_records`, one record to a range
   pub recorded-whole :
       {u v : ℕ} → u < n → v < n → {lent left : List PathRange} {r : Listed} → RecordedAs (rangesOf Vertices t u v) lent left r

@@ -1,8 +1,11 @@
 pub mod Bounds
 pub mod Slots
+pub mod ReadBack
 pub mod Looks
 pub mod Hung
 pub mod Numbered
 pub mod Writing
 pub mod Listing
+pub mod Few
+pub mod Valued
 pub mod Parted

@@ -22,7 +22,8 @@ use Rattle.answers.specs.declared.answer.Listed.the-variants.{Count, Refused}
 use Rattle.ranges.specs.declared.chains.Last.{Last}
 use Rattle.ranges.specs.declared.chains.Last.the-variants.{One, Empty}
 use Rattle.ranges.specs.Ranges.{found, lastChain, pathRanges}
-use Rattle.ranges.specs.Calls.{Answered, refused, listed, fromFound, rangesOf, flat}
+use Rattle.ranges.specs.Flat.{stride, flat}
+use Rattle.ranges.specs.Calls.{Answered, refused, listed, fromFound, rangesOf}
 use Rattle.ranges.specs.Inner.{ListedAs, Ends, lastList, Climbs, Known}
 use Rattle.ranges.proofs.Bounds.{log2-bounded}
 use Rattle.ranges.proofs.Looks.{Agree, Counted, agree}
@@ -32,15 +33,16 @@ use Rattle.ranges.proofs.Looks.{Agree, Counted, agree}
 listed-refused : (a : Answered) {x : Refusal} (w : List ℕ) → refused x ≡ a → ListedAs a w w (Refused x)
 listed-refused a {x} w e = subst (λ (b : Answered). ListedAs b w w (Refused x)) e (record { answer = refl; list = refl })
 
-listed-short : (a : Answered) (l : List PathRange) (w : List ℕ) → listed l ≡ a → length w < 3 * length l → ListedAs a w w (Refused NoRoom)
+listed-short : (a : Answered) (l : List PathRange) (w : List ℕ) → listed l ≡ a → length w < stride * length l → ListedAs a w w (Refused NoRoom)
 listed-short a l w e h =
-    let t = lt-leb (3 * length l) (length w) h in
+    let t = lt-leb (stride * length l) (length w) h in
     subst (λ (b : Answered). ListedAs b w w (Refused NoRoom)) e (record { answer = rw t; list = rw t })
 
-listed-whole : (a : Answered) (l : List PathRange) (w w′ : List ℕ) → listed l ≡ a → 3 * length l ≤ length w → w′ ≡ flat l ++ drop (3 * length l) w
+listed-whole : (a : Answered) (l : List PathRange) (w w′ : List ℕ) → listed l ≡ a → stride * length l ≤ length w
+    → w′ ≡ flat l ++ drop (stride * length l) w
     → ListedAs a w w′ (Count (length l))
 listed-whole a l w w′ e h f =
-    let t = le-leb (3 * length l) (length w) h in
+    let t = le-leb (stride * length l) (length w) h in
     subst (λ (b : Answered). ListedAs b w w′ (Count (length l))) e (record { answer = rw t; list = rw t f })
 
 -- a last chain has one range or none
@@ -114,12 +116,12 @@ module _ (kind : Kind) (t : Six) (u v : ℕ) where
       known-ranges = sym (ap fromFound (known .same)) ∙ ready-ranges
 
       -- the list is too short
-      pub ranges-short : (w : List ℕ) → length w < 3 * count → ListedAs (rangesOf kind t u v) w w (Refused NoRoom)
+      pub ranges-short : (w : List ℕ) → length w < stride * count → ListedAs (rangesOf kind t u v) w w (Refused NoRoom)
       ranges-short w h = listed-short (rangesOf kind t u v) (known .ranges) w known-ranges (omega (arith, known .counted))
 
       -- the ranges are written
-      pub ranges-written : (w w′ : List ℕ) → 3 * count ≤ length w
-          → ((l : List PathRange) → pathRanges kind (sizeOf t) t u v ≡ found l → w′ ≡ flat l ++ drop (3 * length l) w)
+      pub ranges-written : (w w′ : List ℕ) → stride * count ≤ length w
+          → ((l : List PathRange) → pathRanges kind (sizeOf t) t u v ≡ found l → w′ ≡ flat l ++ drop (stride * length l) w)
           → ListedAs (rangesOf kind t u v) w w′ (Count count)
       ranges-written w w′ h f =
           subst (λ (i : ℕ). ListedAs (rangesOf kind t u v) w w′ (Count i)) (known .counted)

@@ -7,7 +7,7 @@ use mathlib.Core.List.{List, [], _∷_, _++_}
 use lib.ListN.{length, set, drop}
 use lib.Seq.{sets, set-comm, sets-eq, length-sets}
 use Rattle.ranges.specs.declared.kinds.PathRange.{PathRange}
-use Rattle.ranges.specs.Calls.{directionCode, flat}
+use Rattle.ranges.specs.Flat.{stride, directionCode, numbersOf, flat}
 use Rattle.ranges.specs.Inner.{written}
 
 -- Runs of stores.
@@ -36,43 +36,43 @@ flat-append : (l m : List PathRange) → flat (l ++ m) ≡ flat l ++ flat m
 flat-append [] m = refl
 flat-append (r ∷ l) m = rw (flat-append l m)
 
-pub flat-length : (l : List PathRange) → length (flat l) ≡ 3 * length l
+pub flat-length : (l : List PathRange) → length (flat l) ≡ stride * length l
 flat-length [] = refl
 flat-length (r ∷ l) = let i = flat-length l in omega arith
 
 -- Slots.
 
 pub written-length : (w : List ℕ) (slot : ℕ) (l : List PathRange) → length (written w slot l) ≡ length w
-written-length w slot l = length-sets w (3 * slot) (flat l)
+written-length w slot l = length-sets w (stride * slot) (flat l)
 
 -- a slot is written by three stores
 pub stored : (w : List ℕ) (slot : ℕ) (r : PathRange) (code : ℕ) → code ≡ directionCode (r .direction)
-    → set (set (set w (3 * slot) (r .start)) (3 * slot + 1) (r .end)) (3 * slot + 2) code ≡ written w slot (r ∷ [])
+    → set (set (set w (stride * slot) (r .start)) (stride * slot + 1) (r .end)) (stride * slot + 2) code ≡ written w slot (r ∷ [])
 stored w slot r code e =
-    let a : 3 * slot + 1 ≡ suc (3 * slot) = omega arith in
-    let b : 3 * slot + 2 ≡ suc (suc (3 * slot)) = omega arith in
+    let a : stride * slot + 1 ≡ suc (stride * slot) = omega arith in
+    let b : stride * slot + 2 ≡ suc (suc (stride * slot)) = omega arith in
     rw (a, b, e)
 
 -- the first range is written, and the others behind it
 pub written-front : (w : List ℕ) (slot : ℕ) (r : PathRange) (l : List PathRange) → written w slot (r ∷ l) ≡ written (written w slot (r ∷ [])) (slot + 1) l
 written-front w slot r l =
-    let e : suc (suc (suc (3 * slot))) ≡ 3 * (slot + 1) = omega arith in
-    ap (λ (k : ℕ). sets (written w slot (r ∷ [])) k (flat l)) e
+    let e : stride * slot + length (numbersOf r) ≡ stride * (slot + 1) = omega arith in
+    sets-append w (stride * slot) (numbersOf r) (flat l) ∙ ap (λ (k : ℕ). sets (written w slot (r ∷ [])) k (flat l)) e
 
 -- the last range is written first, and the others before it
 pub written-back : (w : List ℕ) (slot : ℕ) (l : List PathRange) (r : PathRange)
     → written w slot (l ++ (r ∷ [])) ≡ written (written w (slot + length l) (r ∷ [])) slot l
 written-back w slot l r =
     let f = flat-length l in
-    let e : 3 * slot + length (flat l) ≡ 3 * (slot + length l) = omega arith in
-    ap (sets w (3 * slot)) (flat-append l (r ∷ []))
-    ∙ sets-append w (3 * slot) (flat l) (flat (r ∷ []))
-    ∙ sets-behind w (3 * slot) (3 * slot + length (flat l)) (flat l) (flat (r ∷ [])) (omega arith)
-    ∙ ap (λ (k : ℕ). sets (sets w k (flat (r ∷ []))) (3 * slot) (flat l)) e
+    let e : stride * slot + length (flat l) ≡ stride * (slot + length l) = omega arith in
+    ap (sets w (stride * slot)) (flat-append l (r ∷ []))
+    ∙ sets-append w (stride * slot) (flat l) (flat (r ∷ []))
+    ∙ sets-behind w (stride * slot) (stride * slot + length (flat l)) (flat l) (flat (r ∷ [])) (omega arith)
+    ∙ ap (λ (k : ℕ). sets (sets w k (flat (r ∷ []))) (stride * slot) (flat l)) e
 
 -- all ranges are written from the front on
-pub written-all : (w : List ℕ) (l : List PathRange) → 3 * length l ≤ length w → written w 0 l ≡ flat l ++ drop (3 * length l) w
+pub written-all : (w : List ℕ) (l : List PathRange) → stride * length l ≤ length w → written w 0 l ≡ flat l ++ drop (stride * length l) w
 written-all w l h =
     let f = flat-length l in
-    let e : 0 + length (flat l) ≡ 3 * length l = omega arith in
+    let e : 0 + length (flat l) ≡ stride * length l = omega arith in
     sets-eq (flat l) w 0 (omega arith) ∙ ap (λ (k : ℕ). flat l ++ drop k w) e

@@ -23,7 +23,7 @@ use Rattle.ranges.specs.declared.kinds.Piece.{Piece}
 use Rattle.ranges.specs.declared.kinds.Kind.{Kind}
 use Rattle.ranges.specs.declared.chains.Last.{Last}
 use Rattle.ranges.specs.Ranges.{Found, lost, found, inFront, behind, uPiece, vPiece, chainRange, lastChain, ranging, pathRanges}
-use Rattle.ranges.specs.Calls.{flat}
+use Rattle.ranges.specs.Flat.{stride, flat}
 use Rattle.ranges.specs.Inner.{Chain, Ends, lastList, written, Small, Slot, LastSlot, Climbs, Known}
 use Rattle.ranges.proofs.Bounds.{climbs-small}
 use Rattle.ranges.proofs.Hung.{ReachedIn, LeftIn, hangsIn, reached-unhung, reached-hung, left-number, left-off, left-unhung, left-hung}
@@ -46,7 +46,7 @@ behind-found r (found m) {l} e = let z : l ≡ m ++ (r ∷ []) = cc in (m, refl,
 
 -- a range of a chain goes into a slot
 chain-slot : (kind : Kind) (p : Piece) (w : List ℕ) (slot : ℕ) {x : PathRange}
-    → x ≡ chainRange kind p → Chain p → 3 * slot + 3 ≤ length w → Slot w slot x
+    → x ≡ chainRange kind p → Chain p → stride * slot + stride ≤ length w → Slot w slot x
 chain-slot kind p w slot e h room = record { room = room; small = subst Small (sym e) (chain-small kind p (h .numbers)) }
 
 -- a test that cannot fail
@@ -170,7 +170,7 @@ module _ (kind : Kind) (t : Six) (u v count : ℕ) (lent : List ℕ) where
                 numbers = record { some = omega (arith, u-facts .first-low); small = omega (arith, u-facts .id-below) };
               }
 
-          pub u-slot : sizeOf t ≤ maxVertices → 3 * count ≤ length lent → {x : PathRange} → x ≡ uRange kind c → Slot w (c .«u_count») x
+          pub u-slot : sizeOf t ≤ maxVertices → stride * count ≤ length lent → {x : PathRange} → x ≡ uRange kind c → Slot w (c .«u_count») x
           u-slot small room e =
               chain-slot kind (uPiece c) w (c .«u_count») e (u-chain small) (omega (arith, u-room, g .long))
 
@@ -235,7 +235,8 @@ module _ (kind : Kind) (t : Six) (u v count : ℕ) (lent : List ℕ) where
                 numbers = record { some = omega (arith, v-facts .first-low); small = omega (arith, v-facts .id-below) };
               }
 
-          pub v-slot : sizeOf t ≤ maxVertices → 3 * count ≤ length lent → {x : PathRange} → x ≡ vRange kind c → Slot w (count - 1 - c .«v_count») x
+          pub v-slot : sizeOf t ≤ maxVertices → stride * count ≤ length lent → {x : PathRange} → x ≡ vRange kind c
+              → Slot w (count - 1 - c .«v_count») x
           v-slot small room e =
               chain-slot kind (vPiece c) w (count - 1 - c .«v_count») e (v-chain small) (omega (arith, v-room, g .long))
 
@@ -276,7 +277,7 @@ module _ (kind : Kind) (t : Six) (u v count : ℕ) (lent : List ℕ) where
           let f : found (lastChain kind c) ≡ found (g .rest) = sym (range-met kind (chainsLeft (log2 (sizeOf t)) c) (sizeOf t) t c met) ∙ g .left in
           cc
 
-      pub last-slot : sizeOf t ≤ maxVertices → 3 * count ≤ length lent → LastSlot w (c .«u_count») last
+      pub last-slot : sizeOf t ≤ maxVertices → stride * count ≤ length lent → LastSlot w (c .«u_count») last
       last-slot small room =
           record {
             each = λ r f.
@@ -288,8 +289,9 @@ module _ (kind : Kind) (t : Six) (u v count : ℕ) (lent : List ℕ) where
                 };
           }
 
-      pub writing-done : Known kind (sizeOf t) t u v count → 3 * count ≤ length lent → {w′ : List ℕ} → w′ ≡ written w (c .«u_count») (lastList last)
-          → (l : List PathRange) → pathRanges kind (sizeOf t) t u v ≡ found l → w′ ≡ flat l ++ drop (3 * length l) lent
+      pub writing-done : Known kind (sizeOf t) t u v count → stride * count ≤ length lent → {w′ : List ℕ}
+          → w′ ≡ written w (c .«u_count») (lastList last)
+          → (l : List PathRange) → pathRanges kind (sizeOf t) t u v ≡ found l → w′ ≡ flat l ++ drop (stride * length l) lent
       writing-done known room i l f =
           let z : known .ranges ≡ l = cc in
           let n : length l ≡ count = ap length (sym z) ∙ known .counted in

@@ -12,13 +12,12 @@ use Rattle.answers.specs.declared.answer.Refusal.{Refusal}
 use Rattle.answers.specs.declared.answer.Refusal.the-variants.{BadSize, NoRoom, BadTable}
 use Rattle.answers.specs.declared.answer.Answer.{Answer}
 use Rattle.answers.specs.declared.answer.Answer.the-variants.{Is, Refused as NoNumber}
-use Rattle.ranges.specs.declared.kinds.Direction.{Direction}
-use Rattle.ranges.specs.declared.kinds.Direction.the-variants.{Forward, Reversed}
 use Rattle.ranges.specs.declared.kinds.PathRange.{PathRange}
 use Rattle.ranges.specs.declared.kinds.Kind.{Kind}
 use Rattle.answers.specs.declared.answer.Listed.{Listed}
 use Rattle.answers.specs.declared.answer.Listed.the-variants.{Count, Refused}
 use Rattle.ranges.specs.Ranges.{Found, lost, found, pathRanges}
+use Rattle.ranges.specs.Flat.{stride, flat}
 
 -- the ranges of a path, or the refusal that comes before the test of room
 pub data Answered : Type 0 where
@@ -33,23 +32,14 @@ fromFound (found l) = listed l
 unfoldable pub rangesOf : Kind → Six → ℕ → ℕ → Answered
 rangesOf kind t u v = asked t (u ∷ v ∷ []) refused (fromFound (pathRanges kind (sizeOf t) t u v))
 
--- a range in a plain list: its start, its end and 0 for Forward, 1 for Reversed
-abbrev pub directionCode : Direction → ℕ
-directionCode Forward = 0
-directionCode Reversed = 1
-
-abbrev pub flat : List PathRange → List ℕ
-flat [] = []
-flat (r ∷ l) = r .start ∷ r .end ∷ directionCode (r .direction) ∷ flat l
-
 -- "2 for lists is last": where the list is too short nothing is written; "Entries of a list past its count are unchanged"
 abbrev pub roomAnswer : Answered → ℕ → Listed
 roomAnswer (refused x) room = Refused x
-roomAnswer (listed l) room = pick (leb (3 * length l) room) (Count (length l)) (Refused NoRoom)
+roomAnswer (listed l) room = pick (leb (stride * length l) room) (Count (length l)) (Refused NoRoom)
 
 abbrev pub roomList : Answered → List ℕ → List ℕ
 roomList (refused x) lent = lent
-roomList (listed l) lent = pick (leb (3 * length l) (length lent)) (flat l ++ drop (3 * length l) lent) lent
+roomList (listed l) lent = pick (leb (stride * length l) (length lent)) (flat l ++ drop (stride * length l) lent) lent
 
 -- "Range room: 2·floor(log2 n)+1 is always enough, and a call returns that number for n from 1 to 32,768, else refusal 1."
 abbrev pub rangeRoom : ℕ → Answer

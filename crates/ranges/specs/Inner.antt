@@ -17,7 +17,8 @@ use Rattle.answers.specs.declared.answer.Listed.{Listed}
 use Rattle.ranges.specs.declared.chains.Last.{Last}
 use Rattle.ranges.specs.declared.chains.Last.the-variants.{One, Empty}
 use Rattle.ranges.specs.Ranges.{found, pathRanges}
-use Rattle.ranges.specs.Calls.{Answered, flat, roomAnswer, roomList}
+use Rattle.ranges.specs.Flat.{stride, flat}
+use Rattle.ranges.specs.Calls.{Answered, roomAnswer, roomList}
 
 -- what a call answers and leaves in the list that it was lent
 pub record ListedAs (a : Answered) (lent left : List ℕ) (r : Listed) : Type 0 where
@@ -46,7 +47,7 @@ lastList Empty = []
 
 -- a list with ranges written into its slots, from the given one on
 abbrev pub written : List ℕ → ℕ → List PathRange → List ℕ
-written w slot l = sets w (3 * slot) (flat l)
+written w slot l = sets w (stride * slot) (flat l)
 
 -- a range of 32-bit numbers
 pub record Small (r : PathRange) : Type 0 where
@@ -54,7 +55,7 @@ pub record Small (r : PathRange) : Type 0 where
   pub end : r .end < 2 ^ 32
 
 pub record Slot (w : List ℕ) (slot : ℕ) (r : PathRange) : Type 0 where
-  pub room : 3 * slot + 3 ≤ length w
+  pub room : stride * slot + stride ≤ length w
   pub small : Small r
 
 pub record LastSlot (w : List ℕ) (slot : ℕ) (last : Last) : Type 0 where
@@ -79,9 +80,9 @@ pub record Known (kind : Kind) (n : ℕ) (t : Six) (u v count : ℕ) : Type 0 wh
 pub record Writes (kind : Kind) (P D H I : List ℕ) (u v count : ℕ) (w : List ℕ) : Type 0 where
   pub climbs : Climbs P D H I u v
   pub known : (o s : List ℕ) → Known kind (length P) (six P D H I o s) u v count
-  pub room : 3 * count ≤ length w
+  pub room : stride * count ≤ length w
 
 -- the ranges of the path from the front on, and the rest of the list as it was
 abbrev pub Wrote : Kind → (P D H I : List ℕ) → ℕ → ℕ → (w w′ : List ℕ) → Type 0
 Wrote kind P D H I u v w w′ =
-    (o s : List ℕ) (l : List PathRange) → pathRanges kind (length P) (six P D H I o s) u v ≡ found l → w′ ≡ flat l ++ drop (3 * length l) w
+    (o s : List ℕ) (l : List PathRange) → pathRanges kind (length P) (six P D H I o s) u v ≡ found l → w′ ≡ flat l ++ drop (stride * length l) w

@@ -32,7 +32,7 @@ vPiece c = piece (c .v .first) (c .v .id + 1) Forward
 abbrev pub lastPiece : Climb → Piece
 lastPiece c = pick (ltb (c .v .id) (c .u .id)) (piece (c .v .id) (c .u .id + 1) Reversed) (piece (c .u .id) (c .v .id + 1) Forward)
 
--- a range with the numbers [l, r), and the rest from the piece that it is of: the one place where a record is made
+-- a range with the numbers [l, r), and the rest from the piece that it is of: the one place where a piece becomes a record
 abbrev pub range : ℕ → ℕ → Piece → PathRange
 range l r p = record { start = l; end = r; direction = p .direction }
 

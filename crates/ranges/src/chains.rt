@@ -44,7 +44,7 @@ pub(crate) fn last_piece(climb: Climb) -> Piece
     Piece::new(u, v + 1, Direction::Forward)
 }
 
-// A range with the numbers from start up to end, and the rest from the piece that it is of: the one place where a record is made.
+// A range with the numbers from start up to end, and the rest from the piece that it is of: the one place where a piece becomes a record.
 fn range_of(start: usize, end: usize, piece: Piece) -> PathRange
     ensures { λ r. ⌜ r ≡ range start end piece ⌝ }
 {

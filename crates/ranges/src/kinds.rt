@@ -35,6 +35,9 @@ pub struct PathRange {
     pub direction: Direction,
 }
 
+// How many numbers a range is in a plain list.
+pub const STRIDE: usize = 3;
+
 // Vertices, edges by their children, or both in the doubled numbers.
 pub enum Kind {
     Vertices,

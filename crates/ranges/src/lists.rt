@@ -2,6 +2,7 @@
 use crate::chains::last_chain;
 use crate::chains::last_count;
 use crate::kinds::Kind;
+use crate::kinds::STRIDE;
 use crate::writes::write_path;
 use answers::answer::Listed;
 use answers::answer::Refusal;
@@ -46,7 +47,7 @@ fn climb_between(
 }
 
 // The ranges of one kind.
-fn path_ranges(
+pub fn path_ranges(
     kind: Kind,
     parent: &[u32],
     depth: &[u32],
@@ -67,7 +68,7 @@ fn path_ranges(
         return Listed::Refused(Refusal::BadTable);
     };
     let count = climb.u_count + climb.v_count + last_count(last_chain(kind, climb));
-    if ranges.len() < 3 * count {
+    if ranges.len() < STRIDE * count {
         return Listed::Refused(Refusal::NoRoom);
     }
     write_path(kind, parent, depth, head, id, u, v, count, ranges);

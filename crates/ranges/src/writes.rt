@@ -1,41 +1,16 @@
-// Writing ranges into a lent list, three numbers to a range: its start, its end, and 0 for Forward or 1 for Reversed.
+// Writing the ranges of a path into the slots of a lent list.
 use crate::chains::Last;
 use crate::chains::chain_range;
 use crate::chains::last_chain;
 use crate::chains::u_piece;
 use crate::chains::v_piece;
-use crate::kinds::Direction;
+use crate::flat::write_range;
 use crate::kinds::Kind;
-use crate::kinds::PathRange;
 use climb::climbing::leave_chain;
 use climb::places::Climb;
 use climb::sound::reach;
 ghost use mathlib.Core.Path.{_≡_};
-ghost use mathlib.Core.List.{[], _∷_};
-ghost use Rattle.ranges.specs.Calls.{directionCode};
-ghost use Rattle.ranges.specs.Inner.{lastList, written, Slot, LastSlot, Writes, Wrote};
-
-// The number of a direction.
-fn direction_code(direction: Direction) -> u32
-    ensures { λ r. ⌜ r ≡ directionCode direction ⌝ }
-{
-    match direction {
-        Direction::Forward => 0,
-        Direction::Reversed => 1,
-    }
-}
-
-// Writes a range into a slot.
-fn write_range(ranges: &mut [u32], slot: usize, range: PathRange)
-    requires { ⌜ Slot (now ranges) slot range ⌝ }
-    ensures { λ r. ⌜ now (ranges .exit) ≡ written (now (ranges .entry)) slot (range ∷ []) ⌝ }
-{
-    let at = 3 * slot;
-    let direction = range.direction;
-    ranges[at] = range.start as u32;
-    ranges[at + 1] = range.end as u32;
-    ranges[at + 2] = direction_code(direction);
-}
+ghost use Rattle.ranges.specs.Inner.{lastList, written, LastSlot, Writes, Wrote};
 
 // Writes the range of the last chain, if there is one, into a slot.
 fn write_last(ranges: &mut [u32], slot: usize, last: Last)

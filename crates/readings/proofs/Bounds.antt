@@ -22,6 +22,7 @@ use Rattle.ranges.specs.declared.kinds.Direction.the-variants.{Forward, Reverse
 use Rattle.ranges.specs.declared.kinds.PathRange.{PathRange}
 use Rattle.ranges.specs.declared.kinds.Kind.{Kind}
 use Rattle.ranges.specs.declared.kinds.Kind.the-variants.{Vertices, Edges, Both}
+use Rattle.ranges.proofs.Few.{last-one}
 use Rattle.readings.specs.Numbers.{lastEnd, Within}
 use Rattle.readings.proofs.Found.{Kept, ranges-ind}
 
@@ -39,15 +40,6 @@ last-within Edges n l r d h i = elim (decLt (l + 1) r) [
   | no q ↦ rw (le-ltb (l + 1) r (omega arith)) tt
 ]
 last-within Both n l r d h i = (omega arith, omega arith, tt)
-
--- the last chain has at most one range
-pub last-one : (kind : Kind) (l r : ℕ) (d : Direction) → length (lastRange kind (piece l r d)) ≤ 1
-last-one Vertices l r d = omega arith
-last-one Edges l r d = elim (decLt (l + 1) r) [
-  | yes p ↦ rw (lt-ltb (l + 1) r p) (omega arith)
-  | no q ↦ rw (le-ltb (l + 1) r (omega arith)) (omega arith)
-]
-last-one Both l r d = omega arith
 
 -- two lists of such ranges, one behind the other
 within-append : (m : ℕ) (a b : List PathRange) → Within m a → Within m b → Within m (a ++ b)
@@ -85,8 +77,8 @@ module _ {n root : ℕ} {A : ℕ → List ℕ} {t : Six} {kids : ℕ → List �
   few-kept : Kept n t kind (λ u v l. length l ≤ lightsIn t u + lightsIn t v + 1)
   few-kept =
       record {
-        up = λ {x} {y} hx hy e h. let o = last-one kind (idIn t y) (idIn t x + 1) Reversed in omega arith;
-        down = λ {x} {y} hx hy e h. let o = last-one kind (idIn t x) (idIn t y + 1) Forward in omega arith;
+        up = λ {x} {y} hx hy e h. let o = last-one kind (piece (idIn t y) (idIn t x + 1) Reversed) in omega arith;
+        down = λ {x} {y} hx hy e h. let o = last-one kind (piece (idIn t x) (idIn t y + 1) Forward) in omega arith;
         left = λ l hx hy d h w. let s = lights-one (G .tables .numbering) hx (deeper-head-pos (G .tables .numbering) hx hy d h) in omega arith;
         entered = λ {x} {y} l hx hy d h w.
             let s = lights-one (G .tables .numbering) hy (deeper-head-pos (G .tables .numbering) hy hx (λ e. d (sym e)) h) in

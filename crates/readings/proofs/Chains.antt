@@ -73,7 +73,8 @@ module _
       )
 
   -- a path up one chain is what its last range reads
-  pub chain-last-up : {x z : ℕ} → x < n → z < n → head x ≡ head z → dep z ≤ dep x → along x z ≡ reading (lastRange kind (piece (id z) (id x + 1) Reversed))
+  pub chain-last-up : {x z : ℕ} → x < n → z < n → head x ≡ head z → dep z ≤ dep x
+      → along x z ≡ reading (lastRange kind (piece (id z) (id x + 1) Reversed))
   chain-last-up {x} {z} hx hz e h = let a = same-head-anc N hz hx (sym e) h in go (a .0) (a .1) (a .2)
     where
       go : (k : ℕ) → k + dep z ≡ dep x → climb par k x ≡ z → along x z ≡ reading (lastRange kind (piece (id z) (id x + 1) Reversed))
@@ -87,6 +88,7 @@ module _
           ∙ rw (c, ptail-same par dep z, numbers-alone kind dep id z) (last-reads kind (id z) (id x + 1) (suc k) (omega arith))
 
   -- and so is one down it
-  pub chain-last-down : {x z : ℕ} → x < n → z < n → head x ≡ head z → dep x ≤ dep z → along x z ≡ reading (lastRange kind (piece (id x) (id z + 1) Forward))
+  pub chain-last-down : {x z : ℕ} → x < n → z < n → head x ≡ head z → dep x ≤ dep z
+      → along x z ≡ reading (lastRange kind (piece (id x) (id z + 1) Forward))
   chain-last-down {x} {z} hx hz e h =
       rw (numbers-turn (N .arrangement .rooted) kind id hz hx, chain-last-up hz hx (sym e) h) (sym (last-turned kind (id x) (id z + 1)))

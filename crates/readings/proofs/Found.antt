@@ -24,8 +24,10 @@ use Rattle.ranges.specs.declared.kinds.Kind.{Kind}
 
 -- P holds of the ranges of two vertices of one chain, and stays when the range of a chain is set in front or behind as the climb does
 pub record Kept (n : ℕ) (t : Six) (kind : Kind) (P : (u v : ℕ) → List PathRange → Type 0) : Type 0 where
-  pub up : {x y : ℕ} → x < n → y < n → headIn t x ≡ headIn t y → depthIn t y ≤ depthIn t x → P x y (lastRange kind (piece (idIn t y) (idIn t x + 1) Reversed))
-  pub down : {x y : ℕ} → x < n → y < n → headIn t x ≡ headIn t y → depthIn t x ≤ depthIn t y → P x y (lastRange kind (piece (idIn t x) (idIn t y + 1) Forward))
+  pub up : {x y : ℕ} → x < n → y < n → headIn t x ≡ headIn t y → depthIn t y ≤ depthIn t x
+      → P x y (lastRange kind (piece (idIn t y) (idIn t x + 1) Reversed))
+  pub down : {x y : ℕ} → x < n → y < n → headIn t x ≡ headIn t y → depthIn t x ≤ depthIn t y
+      → P x y (lastRange kind (piece (idIn t x) (idIn t y + 1) Forward))
   pub left :
       {x y : ℕ} (l : List PathRange) → x < n → y < n → headIn t x ≢ headIn t y → depthIn t (headIn t y) ≤ depthIn t (headIn t x)
       → P (parentIn t (headIn t x)) y l → P x y (chainRange kind (piece (idIn t (headIn t x)) (idIn t x + 1) Reversed) ∷ l)

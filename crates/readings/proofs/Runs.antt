@@ -98,7 +98,8 @@ one-turned i j l r =
     append-nil (rising i (j - i)) ∙ sym (reverse-reverse (rising i (j - i))) ∙ ap reverse (sym (append-nil (falling i (j - i))))
 
 -- so does the range of a chain
-pub chain-turned : (kind : Kind) (l r : ℕ) → readRange (chainRange kind (piece l r Forward)) ≡ reverse (readRange (chainRange kind (piece l r Reversed)))
+pub chain-turned : (kind : Kind) (l r : ℕ)
+    → readRange (chainRange kind (piece l r Forward)) ≡ reverse (readRange (chainRange kind (piece l r Reversed)))
 chain-turned Vertices l r = sym (reverse-reverse (rising l (r - l)))
 chain-turned Edges l r = sym (reverse-reverse (rising l (r - l)))
 chain-turned Both l r = sym (reverse-reverse (rising (2 * l - 1) (2 * r - 1 - (2 * l - 1))))

@@ -1,32 +1,13 @@
--- Copying the slots of a plain list of ranges gives the ranges back.
-use Prim.Native.Nat.{ℕ, suc, _+_, _*_, _≤_}
+-- Copying the slots of a plain list into a slice puts its ranges there.
+use Prim.Native.Nat.{ℕ, suc, _≤_}
 use native.Mathlib.Omega.{arith}
 use mathlib.Core.Path.{_≡_, refl, sym, ap, _∙_}
 use mathlib.Core.List.{List, [], _∷_, _++_}
-use lib.ListN.{length, getD, set, drop}
-use Rattle.ranges.specs.declared.kinds.Direction.{Direction}
-use Rattle.ranges.specs.declared.kinds.Direction.the-variants.{Forward, Reversed}
+use lib.ListN.{length, set, drop}
 use Rattle.ranges.specs.declared.kinds.PathRange.{PathRange}
-use Rattle.ranges.specs.Calls.{directionCode, flat}
-use Rattle.records.specs.Inner.{directionOf, recordAt, copied}
-
--- a direction is told by its number
-direction-back : (d : Direction) → directionOf (directionCode d) ≡ d
-direction-back Forward = refl
-direction-back Reversed = refl
-
--- the slots behind the first are those of the list without it
-record-behind : (a b c : ℕ) (w : List ℕ) (i : ℕ) → recordAt (a ∷ b ∷ c ∷ w) (suc i) ≡ recordAt w i
-record-behind a b c w i =
-    let e : 3 * suc i ≡ suc (suc (suc (3 * i))) = omega arith in
-    let f : 3 * suc i + 1 ≡ suc (suc (suc (3 * i + 1))) = omega arith in
-    let g : 3 * suc i + 2 ≡ suc (suc (suc (3 * i + 2))) = omega arith in
-    λ j. record { start = getD (a ∷ b ∷ c ∷ w) (e j) 0; end = getD (a ∷ b ∷ c ∷ w) (f j) 0; direction = directionOf (getD (a ∷ b ∷ c ∷ w) (g j) 0) }
-
--- a range stands in its slot
-record-at : (pre : List PathRange) (r : PathRange) (w : List ℕ) → recordAt (flat pre ++ (flat (r ∷ []) ++ w)) (length pre) ≡ r
-record-at [] r w = λ j. record { start = r .start; end = r .end; direction = direction-back (r .direction) j }
-record-at (q ∷ pre) r w = record-behind (q .start) (q .end) (directionCode (q .direction)) (flat pre ++ (flat (r ∷ []) ++ w)) (length pre) ∙ record-at pre r w
+use Rattle.ranges.specs.Flat.{numbersOf, flat}
+use Rattle.ranges.proofs.ReadBack.{range-stands}
+use Rattle.records.specs.Inner.{copied}
 
 -- a store behind a front
 set-behind : (pre : List PathRange) (x y : PathRange) (rest : List PathRange) → set (pre ++ (x ∷ rest)) (length pre) y ≡ pre ++ (y ∷ rest)
@@ -34,9 +15,9 @@ set-behind [] x y rest = refl
 set-behind (q ∷ pre) x y rest = ap (λ (l : List PathRange). q ∷ l) (set-behind pre x y rest)
 
 -- a front and a range behind it are a longer front
-flat-front : (pre : List PathRange) (r : PathRange) (w : List ℕ) → flat (pre ++ (r ∷ [])) ++ w ≡ flat pre ++ (flat (r ∷ []) ++ w)
+flat-front : (pre : List PathRange) (r : PathRange) (w : List ℕ) → flat (pre ++ (r ∷ [])) ++ w ≡ flat pre ++ (numbersOf r ++ w)
 flat-front [] r w = refl
-flat-front (q ∷ pre) r w = ap (λ (l : List ℕ). q .start ∷ q .end ∷ directionCode (q .direction) ∷ l) (flat-front pre r w)
+flat-front (q ∷ pre) r w = ap (λ (l : List ℕ). numbersOf q ++ l) (flat-front pre r w)
 
 -- a range between a front and the rest stands behind the one or before the other
 front-behind : (pre : List PathRange) (r : PathRange) (l : List PathRange) → (pre ++ (r ∷ [])) ++ l ≡ pre ++ (r ∷ l)
@@ -55,7 +36,7 @@ copied-behind pre [] w rest h = refl
 copied-behind pre (r ∷ l) w [] h = absurd (omega arith)
 copied-behind pre (r ∷ l) w (x ∷ rest) h =
     ap (copied (flat pre ++ (flat (r ∷ l) ++ w)) (suc (length pre)) (length l))
-    (ap (set (pre ++ (x ∷ rest)) (length pre)) (record-at pre r (flat l ++ w)) ∙ set-behind pre x r rest ∙ sym (front-behind pre r rest))
+    (ap (set (pre ++ (x ∷ rest)) (length pre)) (range-stands pre r (flat l ++ w)) ∙ set-behind pre x r rest ∙ sym (front-behind pre r rest))
     ∙ sym (λ j. copied (flat-front pre r (flat l ++ w) j) (front-length pre r j) (length l) ((pre ++ (r ∷ [])) ++ rest))
     ∙ copied-behind (pre ++ (r ∷ [])) l w rest (omega arith)
     ∙ front-behind pre r (l ++ drop (length l) rest)

@@ -1,4 +1,3 @@
-pub mod Few
 pub mod Copying
 pub mod Planning
 pub mod Handed

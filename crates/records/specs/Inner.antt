@@ -1,34 +1,24 @@
 -- What only the contracts of the calls' own functions cite: a plan, and what copying its records leaves.
-use Prim.Native.Nat.{ℕ, zero, suc, _+_, _*_, _≤_}
+use Prim.Native.Nat.{ℕ, zero, suc, _≤_}
 use mathlib.Core.Path.{_≡_}
 use mathlib.Core.List.{List}
 use lib.Dec.{leb}
-use lib.ListN.{length, getD, set}
+use lib.ListN.{length, set}
 use Rattle.answers.specs.Choice.{pick}
 use Rattle.answers.specs.Limits.{mostRanges}
 use Rattle.answers.specs.declared.answer.Refusal.the-variants.{NoRoom}
-use Rattle.ranges.specs.declared.kinds.Direction.{Direction}
-use Rattle.ranges.specs.declared.kinds.Direction.the-variants.{Forward, Reversed}
 use Rattle.ranges.specs.declared.kinds.PathRange.{PathRange}
 use Rattle.answers.specs.declared.answer.Listed.{Listed}
 use Rattle.answers.specs.declared.answer.Listed.the-variants.{Count, Refused}
+use Rattle.ranges.specs.Flat.{rangeAt}
 use Rattle.ranges.specs.Calls.{Answered}
 use Rattle.records.specs.declared.plans.Plan.{Plan}
 use Rattle.records.specs.Records.{recordAnswer, recordList}
 
--- the direction of a number: 0 for Forward
-abbrev pub directionOf : ℕ → Direction
-directionOf zero = Forward
-directionOf (suc k) = Reversed
-
--- the range in a slot of a plain list
-abbrev pub recordAt : List ℕ → ℕ → PathRange
-recordAt w i = record { start = getD w (3 * i) 0; end = getD w (3 * i + 1) 0; direction = directionOf (getD w (3 * i + 2) 0) }
-
 -- the ranges in k slots, from slot i on, each put in its place in a list of records
 abbrev pub copied : List ℕ → (i k : ℕ) → List PathRange → List PathRange
 copied w i zero records = records
-copied w i (suc k) records = copied w (suc i) k (set records i (recordAt w i))
+copied w i (suc k) records = copied w (suc i) k (set records i (rangeAt w i))
 
 -- a plan of an answer, the number of records and their numbers
 abbrev pub plan : Listed → ℕ → List ℕ → Plan

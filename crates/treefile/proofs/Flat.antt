@@ -10,7 +10,8 @@ use mathlib.Core.List.{List, [], _∷_, _++_, append-assoc, append-nil}
 use lib.ListN.{length, drop, length-append}
 use borrow.Author.Tests.{le-leb}
 use Rattle.sums.specs.Sum.{at}
-use Rattle.ranges.specs.Calls.{Answered, refused, listed, flat, directionCode, roomAnswer, roomList}
+use Rattle.ranges.specs.Calls.{Answered, refused, listed, roomAnswer, roomList}
+use Rattle.ranges.specs.Flat.{flat, directionCode}
 use Rattle.ranges.specs.declared.kinds.Direction.{Direction}
 use Rattle.ranges.specs.declared.kinds.Direction.the-variants.{Forward, Reversed}
 use Rattle.ranges.specs.declared.kinds.PathRange.{PathRange}

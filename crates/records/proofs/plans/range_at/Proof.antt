@@ -1,63 +1,28 @@
--- `plans::range_at` meets its contract: the three numbers of a record stand within the array.
+-- `plans::range_at` meets its contract: the numbers of a record stand within the array, which is as long as its type says.
 use borrow.Author.Needs.{needs}
-use native.Mathlib.Omega.{arith}
-use Rattle.records.proofs.Planning.{most}
+use Prim.Native.Nat.{ℕ}
+use mathlib.Core.Path.{sym, _∙_}
+use lib.ListN.{length-map}
+use denote.Struct.Laws as LL
+use Rattle.answers.specs.Limits.{mostChains}
+use Rattle.records.proofs.Planning.{slot-within}
+use Rattle.records.proofs.plans.Plan as P
+use Rattle.records.proofs.plans.Plan.Laws as P′
 use Rattle.records.proofs.plans.range_at.Statement.{statement}
 use Rattle.records.proofs.plans.range_at.Tie as tie
 
-mul-at : tie.Need-mul-at
-mul-at c = omega (arith, most)
+slice-aggregate-range-at : tie.Need-slice-aggregate-range-at
+slice-aggregate-range-at c = search needs
 
-add-direction-of : tie.Need-add-direction-of
-add-direction-of c = omega (arith, most)
-
-mul-direction-of : tie.Need-mul-direction-of
-mul-direction-of c = omega (arith, most)
-
-array-read-direction-of : tie.Need-array-read-direction-of
-array-read-direction-of c = omega (arith, most)
-
-direction-of-requires : tie.Need-direction-of-requires
-direction-of-requires c κs = search needs
-
-mul-t6 : tie.Need-mul-t6
-mul-t6 c = omega (arith, most)
-
-array-read-t10 : tie.Need-array-read-t10
-array-read-t10 c = omega (arith, most)
-
-cast-t7 : tie.Need-cast-t7
-cast-t7 c = search needs
-
-add-t13 : tie.Need-add-t13
-add-t13 c = omega (arith, most)
-
-mul-t14 : tie.Need-mul-t14
-mul-t14 c = omega (arith, most)
-
-array-read-t17 : tie.Need-array-read-t17
-array-read-t17 c = omega (arith, most)
-
-cast-t18 : tie.Need-cast-t18
-cast-t18 c = search needs
+range-at-requires : tie.Need-range-at-requires
+unfolding mostChains
+range-at-requires c κs =
+    let at-start = c .before .before in
+    slot-within (at-start .args .plan .numbers) (at-start .args .i)
+    (sym (length-map (at-start .args .plan .numbers) (λ (v : ℕ). v)) ∙ LL.owed P.the-type P′.the-laws (at-start .args .plan) _ (at-start .good .0) .1 .1 .0 .1 .0 .1) (at-start .pre)
 
 returns : tie.Need-returns
-returns c = rw (c .direction-of .ensures)
+returns c = search needs
 
 pub range-at-spec : {M : Type 1} → statement M
-range-at-spec =
-    tie.close
-    (tie.spec
-    mul-at
-    add-direction-of
-    mul-direction-of
-    array-read-direction-of
-    direction-of-requires
-    mul-t6
-    array-read-t10
-    cast-t7
-    add-t13
-    mul-t14
-    array-read-t17
-    cast-t18
-    returns)
+range-at-spec = tie.close (tie.spec slice-aggregate-range-at range-at-requires returns)

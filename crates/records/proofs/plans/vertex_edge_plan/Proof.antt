@@ -1,29 +1,17 @@
--- `plans::vertex_edge_plan` meets its contract: the array holds the ranges of every path.
+-- `plans::vertex_edge_plan` meets its contract: what the core hands back by value gives a plan for the room.
 use borrow.Author.Needs.{needs}
-use mathlib.Core.Path.{refl}
-use Rattle.tables.specs.Tables.{six}
-use Rattle.ranges.specs.declared.kinds.Kind.the-variants.{Both}
 use Rattle.records.proofs.Planning.{planned}
 use Rattle.records.proofs.plans.vertex_edge_plan.Statement.{statement}
 use Rattle.records.proofs.plans.vertex_edge_plan.Tie as tie
 
-slice-aggregate-vertex-edge-path-ranges : tie.Need-slice-aggregate-vertex-edge-path-ranges
-slice-aggregate-vertex-edge-path-ranges c = search needs
-
-vertex-edge-path-ranges-requires : tie.Need-vertex-edge-path-ranges-requires
-vertex-edge-path-ranges-requires c κs = search needs
+ranges-by-value-requires : tie.Need-ranges-by-value-requires
+ranges-by-value-requires c κs = search needs
 
 fitted-requires : tie.Need-fitted-requires
 fitted-requires c κs = search needs
 
 returns : tie.Need-returns
-returns c = let a = c .before .before .before .before .before .before .before .before .before .before .args in rw (c .fitted .ensures) (planned Both (six (a .parent .now) (a .depth .now) (a .head .now) (a .id .now) (a .order .now) (a .size .now)) (a .u) (a .v) (a .room) _ _ _ refl (c .before .before .vertex-edge-path-ranges .ensures))
+returns c = rw (c .fitted .ensures) (planned _ (c .before .before .before .before .before .before .before .before .args .room) _ (c .before .ranges-by-value .ensures))
 
 pub vertex-edge-plan-spec : {M : Type 1} → statement M
-vertex-edge-plan-spec =
-    tie.close
-    (tie.spec
-    slice-aggregate-vertex-edge-path-ranges
-    vertex-edge-path-ranges-requires
-    fitted-requires
-    returns)
+vertex-edge-plan-spec = tie.close (tie.spec ranges-by-value-requires fitted-requires returns)

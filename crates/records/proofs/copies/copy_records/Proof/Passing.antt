@@ -33,12 +33,13 @@ use denote.Triple.Walked.{says, Stays, stay-slice, stay-none, walkOf, ends-at}
 use denote.Exit.{yes}
 use denote.Signature.{plain}
 use Rattle.ranges.specs.declared.kinds.PathRange.{PathRange}
+use Rattle.ranges.specs.Flat.{rangeAt}
 use Rattle.ranges.proofs.kinds.PathRange as R
 use Rattle.answers.proofs.answer.Listed as L
 use Rattle.answers.proofs.answer.Listed.Laws as L′
 use Rattle.records.specs.declared.plans.Plan.{Plan}
 use Rattle.answers.specs.Limits.{mostRanges}
-use Rattle.records.specs.Inner.{recordAt, copied}
+use Rattle.records.specs.Inner.{copied}
 use Rattle.records.proofs.plans.Plan as P
 use Rattle.records.proofs.plans.Plan.Laws as P′
 use Rattle.records.proofs.plans.range_at as range-at
@@ -124,8 +125,8 @@ module _ {M : Type 1} (𝓤 : URA M) (H : Heap 𝓤) (A : Atoms 𝓤) (W : Given
   abbrev pub Answered : ℕ → PathRange → SProp 𝓤
   Answered i r = ensured 𝓤 H A range-at.ended (range-at.clauses 𝓤 H A mem run) tt (z .plan, (i, tt)) tt r
 
-  pub said : (i : ℕ) (r : PathRange) → ent 𝓤 (Answered i r) (fact 𝓤 (r ≡ recordAt (z .plan .numbers) i))
-  said i r = exE 𝓤 _ (λ ws. snd∗ 𝓤 (sem 𝓤 H A (lasts range-at.ended tt (z .plan, (i, tt)) ws)) (fact 𝓤 (r ≡ recordAt (z .plan .numbers) i)))
+  pub said : (i : ℕ) (r : PathRange) → ent 𝓤 (Answered i r) (fact 𝓤 (r ≡ rangeAt (z .plan .numbers) i))
+  said i r = exE 𝓤 _ (λ ws. snd∗ 𝓤 (sem 𝓤 H A (lasts range-at.ended tt (z .plan, (i, tt)) ws)) (fact 𝓤 (r ≡ rangeAt (z .plan .numbers) i)))
 
   -- from what is held at the end to what is owed: the slice is closed at the records written
   pub exits : Sound z → Roomy z → (l : List PathRange) → length l ≡ length (z .lent) → l ≡ copied (z .plan .numbers) 0 (z .plan .count) (z .lent)

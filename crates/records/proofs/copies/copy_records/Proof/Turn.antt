@@ -35,12 +35,13 @@ use denote.Enum.Laws as EL
 use denote.Triple.Statement.{Triple}
 use denote.Triple.Call.{calls-at}
 use Rattle.ranges.specs.declared.kinds.PathRange.{PathRange}
+use Rattle.ranges.specs.Flat.{rangeAt}
 use Rattle.ranges.proofs.kinds.PathRange as R
 use Rattle.ranges.proofs.kinds.PathRange.Laws as R′
 use Rattle.answers.proofs.answer.Listed as L
 use Rattle.answers.proofs.answer.Listed.Laws as L′
 use Rattle.answers.specs.Limits.{mostRanges}
-use Rattle.records.specs.Inner.{recordAt, copied, Copies}
+use Rattle.records.specs.Inner.{copied, Copies}
 use Rattle.records.proofs.plans.Plan.Laws as P′
 use Rattle.records.proofs.plans.range_at.Symbol.{name as #range-at}
 use Rattle.records.proofs.copies.copy_records.Code.Mir as mir
@@ -115,7 +116,7 @@ module _ {M : Type 1} (𝓤 : URA M) (H : Heap 𝓤) (A : Atoms 𝓤) (W : Given
 
   -- a turn that writes one record
   more : (i : ℕ) (ws : List PathRange) → i < z .plan .count → length ws ≡ length (z .lent) → (X : SProp 𝓤)
-      → Sq W (Items 𝓤 H z h (suc i) (set ws i (recordAt (z .plan .numbers) i))) (Kit.prop X)
+      → Sq W (Items 𝓤 H z h (suc i) (set ws i (rangeAt (z .plan .numbers) i))) (Kit.prop X)
       → Sq W (Items 𝓤 H z h i ws) (runs C Λ E mir.turn-1 (anyQ (afterTurn 𝓤 H X Left)))
   unfolding afterTurn
   more i ws below long X k =
@@ -125,7 +126,7 @@ module _ {M : Type 1} (𝓤 : URA M) (H : Heap 𝓤) (A : Atoms 𝓤) (W : Given
       nothing ! $ use1 W (raw (RangeAt 𝓤 H A mem run .pre (to 𝓤 H A W mem run z i))) (asks 𝓤 H A W mem run z sound i i-fits few) $
       calls-at ! fm (RangeAt 𝓤 H A mem run) known (to 𝓤 H A W mem run z i) (and-then ! (load ! (from ! (stop !)) (look ! 7 refl)) (and-then ! (load ! (from ! (stop !)) (look ! 2 refl)) (no-more !))) (λ w.
       use1 W (later (some (λ (r : PathRange). (‵ ftrue ⊛ ‵ (R.the-row .own r (w ∷ []))) ⊛ raw (Answered 𝓤 H A W mem run z i r)))) (id⊢ 𝓤 _) $ await ! tt $ pick ! (λ r.
-      split ! $ move ! (1 ∷ []) $ use1 W (raw (fact 𝓤 (r ≡ recordAt (z .plan .numbers) i))) (said 𝓤 H A W mem run z i r) $ heard ! (r ≡ recordAt (z .plan .numbers) i) (λ e. split ! $ drop ! $
+      split ! $ move ! (1 ∷ []) $ use1 W (raw (fact 𝓤 (r ≡ rangeAt (z .plan .numbers) i))) (said 𝓤 H A W mem run z i r) $ heard ! (r ≡ rangeAt (z .plan .numbers) i) (λ e. split ! $ drop ! $
       peeks ! R.the-row (Is R.the-row) (shows 𝓤 H A R.the-row) r (w ∷ []) (λ g.
       let typed = LL.lawful R.the-type R′.the-laws 𝓤 H A W .typed r _ g .0 in
       land ! (from ! (stop !)) (init ! 4 refl typed) $
@@ -191,7 +192,7 @@ module _ {M : Type 1} (𝓤 : URA M) (H : Heap 𝓤) (A : Atoms 𝓤) (W : Given
   turn t i zero ws here sum long rest = ends i ws (omega arith) long rest _
   turn t i (suc k) ws here sum long rest =
       more i ws (omega arith) long _ (again ! (Less z) Inv t
-      (record { i = suc i; left = k; records = set ws i (recordAt (z .plan .numbers) i); sum = omega arith; long = length-set ws i (recordAt (z .plan .numbers) i) ∙ long; rest = rest })
+      (record { i = suc i; left = k; records = set ws i (rangeAt (z .plan .numbers) i); sum = omega arith; long = length-set ws i (rangeAt (z .plan .numbers) i) ∙ long; rest = rest })
       (omega arith))
 
   -- the loop, from the slice as it was lent

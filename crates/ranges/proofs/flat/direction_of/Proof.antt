@@ -1,7 +1,7 @@
--- `plans::direction_of` meets its contract: 0 is Forward, any other number Reversed.
-use Rattle.records.proofs.Planning.{direction-forward, direction-reversed}
-use Rattle.records.proofs.plans.direction_of.Statement.{statement}
-use Rattle.records.proofs.plans.direction_of.Tie as tie
+-- `flat::direction_of` meets its contract: 0 is Forward, any other number Reversed.
+use Rattle.ranges.proofs.ReadBack.{direction-forward, direction-reversed}
+use Rattle.ranges.proofs.flat.direction_of.Statement.{statement}
+use Rattle.ranges.proofs.flat.direction_of.Tie as tie
 
 returns : tie.Need-returns
 returns c = direction-forward (c .before .args .code) (c .if1 .taken)

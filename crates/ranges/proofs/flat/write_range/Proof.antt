@@ -1,10 +1,10 @@
--- `writes::write_range` meets its contract: three stores fill a slot.
+-- `flat::write_range` meets its contract: three stores fill a slot.
 use borrow.Author.Needs.{needs}
 use Rattle.ranges.proofs.Slots.{stored}
 use native.Mathlib.Omega.{arith}
 use lib.ListN.{length-set}
-use Rattle.ranges.proofs.writes.write_range.Statement.{statement}
-use Rattle.ranges.proofs.writes.write_range.Tie as tie
+use Rattle.ranges.proofs.flat.write_range.Statement.{statement}
+use Rattle.ranges.proofs.flat.write_range.Tie as tie
 
 mul-at : tie.Need-mul-at
 mul-at c = search needs

@@ -14,25 +14,26 @@ use Rattle.climb.specs.Asked.{sizeOf, asked}
 use Rattle.climb.specs.Climbing.{climbTo}
 use Rattle.answers.specs.declared.asked.Verdict.{Verdict}
 use Rattle.answers.specs.declared.asked.Verdict.the-variants.{Ready, Refused as Stopped}
-use Rattle.climb.specs.declared.places.Climb.{Climb}
 use Rattle.climb.specs.declared.places.Climbed.{Climbed}
 use Rattle.climb.specs.declared.places.Climbed.the-variants.{Met, Lost}
 use Rattle.climb.proofs.Passed.{verdict-refused}
-use Rattle.ranges.specs.declared.kinds.Direction.the-variants.{Forward, Reversed}
 use Rattle.ranges.specs.declared.kinds.PathRange.{PathRange}
+use Rattle.ranges.specs.declared.kinds.Piece.{Piece}
 use Rattle.ranges.specs.declared.kinds.Kind.{Kind}
-use Rattle.ranges.specs.Ranges.{Found, lost, found, lastChain, pathRanges}
+use Rattle.ranges.specs.declared.kinds.Kind.the-variants.{Vertices, Edges, Both}
+use Rattle.ranges.specs.Ranges.{Found, lost, found, lastPiece, lastRange, pathRanges}
 use Rattle.ranges.specs.Calls.{refused, listed, fromFound, rangesOf}
 use Rattle.ranges.proofs.Looks.{Agree, agree}
 use Rattle.ranges.proofs.Listing.{ready-some, ready-small, ready-ranges}
-use Rattle.readings.proofs.Bounds.{last-one}
 
--- the last chain of a climb has at most one range
-last-chain-one : (kind : Kind) (c : Climb) → length (lastChain kind c) ≤ 1
-last-chain-one kind c = elim (decLt (c .v .id) (c .u .id)) [
-  | yes p ↦ rw (lt-ltb (c .v .id) (c .u .id) p) (last-one kind (c .v .id) (c .u .id + 1) Reversed)
-  | no q ↦ rw (le-ltb (c .v .id) (c .u .id) (omega arith)) (last-one kind (c .u .id) (c .v .id + 1) Forward)
+-- the last chain has at most one range
+pub last-one : (kind : Kind) (p : Piece) → length (lastRange kind p) ≤ 1
+last-one Vertices p = omega arith
+last-one Edges p = elim (decLt (p .from + 1) (p .to)) [
+  | yes h ↦ rw (lt-ltb (p .from + 1) (p .to) h) (omega arith)
+  | no h ↦ rw (le-ltb (p .from + 1) (p .to) (omega arith)) (omega arith)
 ]
+last-one Both p = omega arith
 
 -- the ranges of a climb are at most one more than both sides' chains
 found-few : (kind : Kind) (n : ℕ) (D : List ℕ) (x : Climbed) (f : Found) → Agree kind n D 0 x f
@@ -45,7 +46,7 @@ found-few kind n D (Met d) f a l e =
     let z : found (a .list) ≡ found l = sym (a .same) ∙ e in
     let m : a .list ≡ l = cc in
     let k = ap length m in
-    omega (arith, a .counted, a .u-few, a .v-few, last-chain-one kind d, k)
+    omega (arith, a .counted, a .u-few, a .v-few, last-one kind (lastPiece d), k)
 
 module _ (kind : Kind) (t : Six) (u v : ℕ) where
   -- the climb's ranges are few
