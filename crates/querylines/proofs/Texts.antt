@@ -9,6 +9,7 @@ use borrow.Author.Tests.{eq-eqb, ne-eqb}
 use Rattle.sums.proofs.Sums.{equal-or-not}
 use Rattle.tables.specs.Tables.{Six}
 use Rattle.queries.specs.Queries.{distance, lca, kthAncestor, jump, subtreeSize}
+use Rattle.ranges.specs.Flat.{stride}
 use Rattle.ranges.specs.Calls.{Answered, refused, listed, rangesOf}
 use Rattle.ranges.specs.Inner.{ListedAs}
 use Rattle.ranges.specs.declared.kinds.Kind.{Kind}
@@ -16,8 +17,8 @@ use Rattle.ranges.specs.declared.kinds.Kind.the-variants.{Vertices, Edges, Both
 use Rattle.answers.specs.declared.answer.Listed.{Listed}
 use Rattle.ranges.specs.declared.kinds.PathRange.{PathRange}
 use Rattle.treefile.specs.Report.{numberText, listText, answerText}
-use Rattle.treefile.specs.Flat.{Short, ShortLists, listedText, spokenOf, numbersOf, ListRoom}
-use Rattle.treefile.specs.Sizes.{mostRanges}
+use Rattle.treefile.specs.Flat.{Short, ShortLists, listedText, spokenOf, takenBy, ListRoom}
+use Rattle.treefile.specs.Sizes.{fileRanges}
 use Rattle.treefile.specs.Writing.{Room}
 use Rattle.treefile.proofs.Flat.{listed-text, spoken-there}
 use Rattle.treefile.proofs.Writing.{room-as}
@@ -89,14 +90,14 @@ kind-seven {k} e = rw (ne-eqb k 6 (λ x. omega arith), eq-eqb k 7 e)
 pub kind-other : {k : ℕ} → (k ≡ 6 → ⊥) → (k ≡ 7 → ⊥) → kindOf k ≡ Both
 kind-other {k} n₆ n₇ = rw (ne-eqb k 6 n₆, ne-eqb k 7 n₇)
 
--- a short answer takes three numbers a range
-few-numbers : (a : Answered) → ((l : List PathRange) → a ≡ listed l → Short l) → numbersOf a ≤ 3 * mostRanges
+-- a short answer takes so many numbers
+few-numbers : (a : Answered) → ((l : List PathRange) → a ≡ listed l → Short l) → takenBy a ≤ stride * fileRanges
 few-numbers (refused x) short = omega arith
 few-numbers (listed l) short = omega (arith, short l refl .few)
 
 -- what a call for ranges left in a list that holds any short answer is the text of its answer
-module _ (t : Six) (short : ShortLists t) (kind : Kind) (u v : ℕ) {lent left : List ℕ} {r : Listed} (h : ListedAs (rangesOf kind t u v) lent left r) (long : 3 * mostRanges ≤ length lent) where
-  enough : numbersOf (rangesOf kind t u v) ≤ length lent
+module _ (t : Six) (short : ShortLists t) (kind : Kind) (u v : ℕ) {lent left : List ℕ} {r : Listed} (h : ListedAs (rangesOf kind t u v) lent left r) (long : stride * fileRanges ≤ length lent) where
+  enough : takenBy (rangesOf kind t u v) ≤ length lent
   enough = let f = few-numbers (rangesOf kind t u v) (short kind u v) in omega arith
 
   pub left-text : listedText r left ≡ listText (rangesOf kind t u v)

@@ -6,6 +6,7 @@ use queries::between::distance;
 use queries::between::jump;
 use queries::between::lca;
 use queries::sizes::subtree_size;
+use ranges::kinds::STRIDE;
 use ranges::lists::edge_path_ranges;
 use ranges::lists::vertex_edge_path_ranges;
 use ranges::lists::vertex_path_ranges;
@@ -20,10 +21,10 @@ ghost use Rattle.treefile.specs.Writing.{Puts};
 ghost use Rattle.querylines.specs.Answering.{query, numberOf, kindOf, PathAsks, AnswerAsks};
 
 // The most ranges of a path among the 1,024 vertices that a file's tree can have.
-const MOST_RANGES: usize = 21;
+const FILE_RANGES: usize = 21;
 
-// Three numbers a range.
-const RANGE_NUMBERS: usize = 3 * MOST_RANGES;
+// The numbers of so many ranges.
+const RANGE_NUMBERS: usize = STRIDE * FILE_RANGES;
 
 // The answer to a query of the kinds 1 to 5.
 fn number_answer(

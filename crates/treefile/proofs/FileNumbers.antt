@@ -60,12 +60,14 @@ little-next : (w p : ℕ) (l : List ℕ) → littleEndian (take (suc w) (drop p 
 little-next w p l =
     let e : p + 0 ≡ p = omega arith in
     let first : at (drop p l) 0 ≡ at l p = getD-drop p l 0 0 ∙ ap (at l) e in
-    let rest : littleEndian (take w (drop 1 (drop p l))) ≡ littleEndian (take w (drop (p + 1) l)) = ap (λ (m : List ℕ). littleEndian (take w m)) (drop-drop 1 p l) in
+    let rest = ap (λ (m : List ℕ). littleEndian (take w m)) (drop-drop 1 p l) in
     little-first w (drop p l) ∙ ap₂ (λ (x y : ℕ). x + 256 * y) first rest
 
 pub little-two : (l : List ℕ) (p : ℕ) → at l p < 256 → at l (p + 1) < 256 → Little 2 l p (at l p + 256 * at l (p + 1))
 little-two l p low high =
-    record { value = sym (little-next 1 p l ∙ ap (λ (x : ℕ). at l p + 256 * x) (little-next 0 (p + 1) l ∙ (let e : at l (p + 1) + 256 * 0 ≡ at l (p + 1) = omega arith in e))); small = omega arith }
+    let last : at l (p + 1) + 256 * 0 ≡ at l (p + 1) = omega arith in
+    let value = little-next 1 p l ∙ ap (λ (x : ℕ). at l p + 256 * x) (little-next 0 (p + 1) l ∙ last) in
+    record { value = sym value; small = omega arith }
 
 pub little-four : (l : List ℕ) (p a b : ℕ) → Little 2 l p a → Little 2 l (p + 2) b → Little 4 l p (a + 65_536 * b)
 little-four l p a b m n =

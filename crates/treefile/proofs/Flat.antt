@@ -1,22 +1,21 @@
--- Laws of ranges in a flat list: their text range by range, and the list that a call left read back.
+-- Laws of ranges in a flat list: their text range by range, and the text of the list that a call left.
 use Prim.Native.Nat.{ℕ, zero, suc, _+_, _*_, _≤_, _<_}
 use native.Mathlib.Omega.{arith}
 use native.Mathlib.Nat.{le-refl}
 use native.Mathlib.Decide.{decLe}
 use native.Mathlib.Numerals.{add-one}
-use mathlib.Core.Path.{_≡_, refl, sym, ap, ap₂, _∙_, subst}
+use mathlib.Core.Path.{_≡_, refl, sym, ap, _∙_, subst}
 use mathlib.Core.Logic.{by-cases}
 use mathlib.Core.List.{List, [], _∷_, _++_, append-assoc, append-nil}
 use lib.ListN.{length, drop, length-append}
 use borrow.Author.Tests.{le-leb}
-use Rattle.sums.specs.Sum.{at}
+use Rattle.ranges.specs.Flat.{stride, flat, rangeAt, rangesIn}
 use Rattle.ranges.specs.Calls.{Answered, refused, listed, roomAnswer, roomList}
-use Rattle.ranges.specs.Flat.{flat, directionCode}
-use Rattle.ranges.specs.declared.kinds.Direction.{Direction}
-use Rattle.ranges.specs.declared.kinds.Direction.the-variants.{Forward, Reversed}
 use Rattle.ranges.specs.declared.kinds.PathRange.{PathRange}
+use Rattle.ranges.proofs.ReadBack.{flat-ranges}
+use Rattle.ranges.proofs.Slots.{flat-length}
 use Rattle.treefile.specs.Report.{space, rangeText, rangesText, listText}
-use Rattle.treefile.specs.Flat.{directionOf, rangeAt, rangesIn, answeredIn, numbersOf, listedText, spokenOf}
+use Rattle.treefile.specs.Flat.{answeredIn, takenBy, listedText, spokenOf}
 use Rattle.treefile.specs.Writing.{Room, Puts}
 use Rattle.treefile.proofs.Writing.{puts-then, puts-as, room-then, room-as}
 
@@ -55,54 +54,17 @@ pub ranges-more : {out out′ out″ : List ℕ} {at m r : ℕ} (l : List ℕ) (
     → Puts (rangesText (rangesIn i l)) at out out′ m → Puts (space ++ rangeText (rangeAt l i)) m out′ out″ r → Puts (rangesText (rangesIn (i + 1) l)) at out out″ r
 ranges-more l i p q = puts-as (sym (ap (textOf l) (add-one i) ∙ text-more l i)) (puts-then p q)
 
-rangeOf : ℕ → ℕ → ℕ → PathRange
-rangeOf a b d = record { start = a; end = b; direction = directionOf d }
-
-same-range : (a b d : ℕ) {x y z : ℕ} → a ≡ x → b ≡ y → d ≡ z → rangeOf a b d ≡ rangeOf x y z
-same-range a b d p q r = cc
-
--- the next range of a list stands one place nearer in what follows its first
-range-next : (a b d k : ℕ) (l : List ℕ) → rangeAt (a ∷ b ∷ d ∷ l) (suc k) ≡ rangeAt l k
-unfolding rangeAt rangeOf
-range-next a b d k l =
-    let whole : List ℕ = a ∷ b ∷ d ∷ l in
-    let e0 : 3 * suc k ≡ suc (suc (suc (3 * k))) = omega arith in
-    let e1 : 3 * suc k + 1 ≡ suc (suc (suc (3 * k + 1))) = omega arith in
-    let e2 : 3 * suc k + 2 ≡ suc (suc (suc (3 * k + 2))) = omega arith in
-    same-range (at whole (3 * suc k)) (at whole (3 * suc k + 1)) (at whole (3 * suc k + 2)) (ap (at whole) e0) (ap (at whole) e1) (ap (at whole) e2)
-
-ranges-front : (a b d k : ℕ) (l : List ℕ) → rangesIn (suc k) (a ∷ b ∷ d ∷ l) ≡ rangeOf a b d ∷ rangesIn k l
-unfolding rangeAt rangeOf
-ranges-front a b d zero l = refl
-ranges-front a b d (suc k) l = ap₂ (λ (x : List PathRange) (r : PathRange). x ++ (r ∷ [])) (ranges-front a b d k l) (range-next a b d k l)
-
-direction-back : (d : Direction) → directionOf (directionCode d) ≡ d
-direction-back Forward = refl
-direction-back Reversed = refl
-
--- a flat list is read back
-pub flat-ranges : (l : List PathRange) (rest : List ℕ) → rangesIn (length l) (flat l ++ rest) ≡ l
-unfolding rangeOf
-flat-ranges [] rest = refl
-flat-ranges (r ∷ l) rest =
-    ranges-front (r .start) (r .end) (directionCode (r .direction)) (length l) (flat l ++ rest)
-    ∙ ap₂ (λ (d : Direction) (x : List PathRange). (record { start = r .start; end = r .end; direction = d }) ∷ x) (direction-back (r .direction)) (flat-ranges l rest)
-
 -- an answer and the list that was left say what was answered, where the list has room for it
-pub answer-back : (a : Answered) (lent : List ℕ) → numbersOf a ≤ length lent → answeredIn (roomAnswer a (length lent)) (roomList a lent) ≡ a
+pub answer-back : (a : Answered) (lent : List ℕ) → takenBy a ≤ length lent → answeredIn (roomAnswer a (length lent)) (roomList a lent) ≡ a
 answer-back (refused x) lent h = refl
-answer-back (listed l) lent h = rw (le-leb (3 * length l) (length lent) h) (ap listed (flat-ranges l (drop (3 * length l) lent)))
+answer-back (listed l) lent h = rw (le-leb (stride * length l) (length lent) h) (ap listed (flat-ranges l (drop (stride * length l) lent)))
 
 -- its text
-pub listed-text : (a : Answered) (lent : List ℕ) → numbersOf a ≤ length lent → listedText (roomAnswer a (length lent)) (roomList a lent) ≡ listText a
+pub listed-text : (a : Answered) (lent : List ℕ) → takenBy a ≤ length lent → listedText (roomAnswer a (length lent)) (roomList a lent) ≡ listText a
 listed-text a lent h = ap listText (answer-back a lent h)
 
-flat-length : (l : List PathRange) → length (flat l) ≡ 3 * length l
-flat-length [] = refl
-flat-length (r ∷ l) = let rest = flat-length l in omega arith
-
 -- the list that was left holds what the answer speaks of
-pub spoken-there : (a : Answered) (lent : List ℕ) → numbersOf a ≤ length lent → spokenOf (roomAnswer a (length lent)) ≤ length (roomList a lent)
+pub spoken-there : (a : Answered) (lent : List ℕ) → takenBy a ≤ length lent → spokenOf (roomAnswer a (length lent)) ≤ length (roomList a lent)
 spoken-there (refused x) lent h = omega arith
 spoken-there (listed l) lent h =
-    rw (le-leb (3 * length l) (length lent) h) (omega (arith, length-append (flat l) (drop (3 * length l) lent), flat-length l))
+    rw (le-leb (stride * length l) (length lent) h) (omega (arith, length-append (flat l) (drop (stride * length l) lent), flat-length l))

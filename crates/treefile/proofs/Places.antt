@@ -38,7 +38,9 @@ module _ (w : ℕ) (bytes : List ℕ) (none : length bytes % w ≡ 0) where
   tree-bad e = parse-whole w bytes none ∙ ap afterTree (found-bad (numbers w bytes) (readTree (numbers w bytes)) (sym e))
 
   module _ (o t root next : ℕ) (found : Sections o t root next ≡ treeFound (numbers w bytes) (readTree (drop 0 (numbers w bytes)))) where
-    after : (s : TreeSections) × (parseAs w bytes ≡ withQueries s (querySection (drop next (numbers w bytes)))) × (length (s .offsets) ≡ o) × (length (s .targets) ≡ t) × (s .root ≡ root)
+    after :
+        (s : TreeSections) × (parseAs w bytes ≡ withQueries s (querySection (drop next (numbers w bytes)))) × (length (s .offsets) ≡ o)
+        × (length (s .targets) ≡ t) × (s .root ≡ root)
     unfolding parseNumbers
     after =
         let f = found-tree (numbers w bytes) (readTree (numbers w bytes)) o t root next refl (sym found) in
@@ -111,7 +113,8 @@ numbers-layout : (ws : List ℕ) → shapeOf (parseNumbers ws) .good ≡ true �
 unfolding parseNumbers
 numbers-layout ws good = trees (readTree ws) refl good
   where
-    asks : (s : TreeSections) (rest : List ℕ) (q : Queries) → readTree ws ≡ tree s rest → querySection rest ≡ q → shapeOf (withQueries s q) .good ≡ true
+    asks : (s : TreeSections) (rest : List ℕ) (q : Queries) → readTree ws ≡ tree s rest → querySection rest ≡ q
+        → shapeOf (withQueries s q) .good ≡ true
         → Layout ws (withQueries s q) (shapeOf (withQueries s q))
     asks s rest bad e f g = bad-never badFile refl g
     asks s rest (all qs) e f g = file-layout ws s rest qs (tree-at ws 0 s rest e) (asked rest qs f)
@@ -120,7 +123,8 @@ numbers-layout ws good = trees (readTree ws) refl good
     trees badTree e g = bad-never badFile refl g
     trees (tree s rest) e g = asks s rest (querySection rest) e refl g
 
-pub layout : (w : ℕ) (bytes : List ℕ) → shapeOf (parseAs w bytes) .good ≡ true → Layout (numbers w bytes) (parseAs w bytes) (shapeOf (parseAs w bytes))
+pub layout : (w : ℕ) (bytes : List ℕ) → shapeOf (parseAs w bytes) .good ≡ true
+    → Layout (numbers w bytes) (parseAs w bytes) (shapeOf (parseAs w bytes))
 layout w bytes good =
     by-cases (ℕ-discrete (length bytes % w) 0)
     (λ none.

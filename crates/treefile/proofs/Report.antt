@@ -21,7 +21,7 @@ use Rattle.ranges.specs.declared.kinds.PathRange.{PathRange}
 use Rattle.treefile.specs.File.{Query, TreeFile, maxQueries}
 use Rattle.treefile.specs.Report.{decimal, space, newline, fields, letter, rangeText, rangesText, numberText, listText, answerText, queryLine, queryLines, treeWord, treeLine, fileReport}
 use Rattle.treefile.specs.Flat.{Low, Short, ShortLists, queryHead}
-use Rattle.treefile.specs.Sizes.{mostDigits, mostRanges, rangeDigits, rangeSize, answerSize, lineSize, treeSize, reportSize}
+use Rattle.treefile.specs.Sizes.{mostDigits, fileRanges, rangeDigits, rangeSize, answerSize, lineSize, treeSize, reportSize}
 use Rattle.treefile.proofs.Digits.{decimal-digits, decimal-room}
 use native.Mathlib.Nat.{add-zero}
 
@@ -42,7 +42,11 @@ query-line t place q =
 -- how long each text gets, from a range to the whole report
 pub range-text-room : (k : ℕ) (r : PathRange) → 0 < k → r .start < 10 ^ k → r .end < 10 ^ k → length (rangeText r) ≤ rangeSize k
 range-text-room k r some low high =
-    omega (arith, decimal-digits k (r .start) some low, decimal-digits k (r .end) some high, length-append (decimal (r .start)) (45 ∷ (decimal (r .end) ++ (letter (r .direction) ∷ []))), length-append (decimal (r .end)) (letter (r .direction) ∷ []))
+    let first = decimal-digits k (r .start) some low in
+    let last = decimal-digits k (r .end) some high in
+    let whole = length-append (decimal (r .start)) (45 ∷ (decimal (r .end) ++ (letter (r .direction) ∷ []))) in
+    let rest = length-append (decimal (r .end)) (letter (r .direction) ∷ []) in
+    omega arith
 
 pub ranges-text-room : (l : List PathRange) → Low (10 ^ rangeDigits) l → length (rangesText l) ≤ (1 + rangeSize rangeDigits) * length l
 ranges-text-room [] h = omega arith
@@ -68,7 +72,7 @@ tree-line-room code n root = go (eqb code 0)
         omega arith
     go false = omega (arith, decimal-room code, length-append (decimal code) newline)
 
-list-text-room : (a : Answered) → ((l : List PathRange) → a ≡ listed l → Short l) → length (listText a) ≤ answerSize rangeDigits mostRanges
+list-text-room : (a : Answered) → ((l : List PathRange) → a ≡ listed l → Short l) → length (listText a) ≤ answerSize rangeDigits fileRanges
 list-text-room (refused x) short = omega (arith, decimal-room (refusalCode x))
 list-text-room (listed l) short =
     let s = short l refl in
@@ -79,11 +83,12 @@ pick-room true x y hx hy = hx
 pick-room false x y hx hy = hy
 
 -- an answer of a number is no longer than one of ranges can be
-pub answer-text-room : (t : Six) (q : Query) → ShortLists t → length (answerText t q) ≤ answerSize rangeDigits mostRanges
+pub answer-text-room : (t : Six) (q : Query) → ShortLists t → length (answerText t q) ≤ answerSize rangeDigits fileRanges
 unfolding answerText
 answer-text-room t q short =
-    let room : (a : Answer) → length (numberText a) ≤ answerSize rangeDigits mostRanges = λ a. omega (arith, number-text-room a) in
-    let list : (k : Kind) → length (listText (rangesOf k t (q .a) (q .b))) ≤ answerSize rangeDigits mostRanges = λ k. list-text-room (rangesOf k t (q .a) (q .b)) (short k (q .a) (q .b)) in
+    let room : (a : Answer) → length (numberText a) ≤ answerSize rangeDigits fileRanges = λ a. omega (arith, number-text-room a) in
+    let list : (k : Kind) → length (listText (rangesOf k t (q .a) (q .b))) ≤ answerSize rangeDigits fileRanges =
+    λ k. list-text-room (rangesOf k t (q .a) (q .b)) (short k (q .a) (q .b)) in
     pick-room (eqb (q .kind) 1) _ _ (room (distance t (q .a) (q .b)))
     (pick-room (eqb (q .kind) 2) _ _ (room (lca t (q .a) (q .b) (q .c)))
     (pick-room (eqb (q .kind) 3) _ _ (room (kthAncestor t (q .a) (q .b)))
@@ -96,21 +101,25 @@ pub query-head-room : (place kind : ℕ) → length (queryHead place kind) ≤ 2
 query-head-room place kind =
     omega (arith, decimal-room place, decimal-room kind, length-append (decimal place) (space ++ (decimal kind ++ space)), length-append (decimal kind) space)
 
-pub query-line-room : (t : Six) (place : ℕ) (q : Query) → ShortLists t → length (queryLine t place q) ≤ lineSize rangeDigits mostRanges
+pub query-line-room : (t : Six) (place : ℕ) (q : Query) → ShortLists t → length (queryLine t place q) ≤ lineSize rangeDigits fileRanges
 query-line-room t place q short =
     let parts = ap length (query-line t place q) ∙ length-append (queryHead place (q .kind)) (answerText t q ++ newline) in
     omega (arith, query-head-room place (q .kind), answer-text-room t q short, length-append (answerText t q) newline)
 
-pub query-lines-room : (t : Six) (place : ℕ) (qs : List Query) → ShortLists t → length (queryLines t place qs) ≤ lineSize rangeDigits mostRanges * length qs
+pub query-lines-room : (t : Six) (place : ℕ) (qs : List Query) → ShortLists t
+    → length (queryLines t place qs) ≤ lineSize rangeDigits fileRanges * length qs
 query-lines-room t place [] short = omega arith
 query-lines-room t place (q ∷ qs) short =
-    omega (arith, query-line-room t place q short, query-lines-room t (place + 1) qs short, length-append (queryLine t place q) (queryLines t (place + 1) qs))
+    let parts = length-append (queryLine t place q) (queryLines t (place + 1) qs) in
+    omega (arith, query-line-room t place q short, query-lines-room t (place + 1) qs short)
 
-pub report-room : (code : ℕ) (t : Six) (f : TreeFile) → ShortLists t → length (f .queries) ≤ maxQueries → length (fileReport code t f) ≤ reportSize rangeDigits mostRanges maxQueries
+pub report-room : (code : ℕ) (t : Six) (f : TreeFile) → ShortLists t → length (f .queries) ≤ maxQueries
+    → length (fileReport code t f) ≤ reportSize rangeDigits fileRanges maxQueries
 unfolding maxQueries
 report-room code t f short most =
     let lines = query-lines-room t 1 (f .queries) short in
-    let rest : length (pick (eqb code 0) (queryLines t 1 (f .queries)) []) ≤ maxQueries * lineSize rangeDigits mostRanges = pick-room (eqb code 0) _ [] (omega arith) (omega arith) in
+    let rest : length (pick (eqb code 0) (queryLines t 1 (f .queries)) []) ≤ maxQueries * lineSize rangeDigits fileRanges =
+    pick-room (eqb code 0) _ [] (omega arith) (omega arith) in
     let first : List ℕ = treeLine code (length (f .tree .offsets) - 1) (f .tree .root) in
     let both = length-append first (pick (eqb code 0) (queryLines t 1 (f .queries)) []) in
     omega (arith, tree-line-room code (length (f .tree .offsets) - 1) (f .tree .root))

@@ -121,20 +121,23 @@ module _ (ws : List ℕ) (p : ℕ) where
   pub root-other : (o t c : ℕ) → countOf (section maxRoots (drop p ws)) ≡ Count c → (c ≡ 1 → ⊥) → Rooted ws p o t BadTree
   root-other o t c e ne os ts eo et =
       let found = found-part (section maxRoots (drop p ws)) c e in
-      sym (ap (λ (a : Section). treeFound ws (withRoot os ts a)) (found .2) ∙ ap (treeFound ws) (other (found .0) (found .1) (λ one. ne (sym (found .3) ∙ one))))
+      let wrong = other (found .0) (found .1) (λ one. ne (sym (found .3) ∙ one)) in
+      sym (ap (λ (a : Section). treeFound ws (withRoot os ts a)) (found .2) ∙ ap (treeFound ws) wrong)
     where
       other : (l rest : List ℕ) → (length l ≡ 1 → ⊥) → withRoot os ts (part l rest) ≡ badTree
       other [] rest h = refl
       other (x ∷ []) rest h = absurd (h refl)
       other (x ∷ y ∷ l) rest h = refl
 
-  pub root-one : (o t c root : ℕ) → countOf (section maxRoots (drop p ws)) ≡ Count c → c ≡ 1 → root ≡ at ws (p + 1) → Rooted ws p o t (Sections o t root (p + 2))
+  pub root-one : (o t c root : ℕ) → countOf (section maxRoots (drop p ws)) ≡ Count c → c ≡ 1 → root ≡ at ws (p + 1)
+      → Rooted ws p o t (Sections o t root (p + 2))
   root-one o t c root e one is os ts eo et =
       let found = found-part (section maxRoots (drop p ws)) c e in
       let s = section-part maxRoots ws p (found .0) (found .1) (found .2) in
       sym (ap (λ (a : Section). treeFound ws (withRoot os ts a)) (found .2) ∙ alone (found .0) (found .1) (found .3 ∙ one) s)
     where
-      same : (a b d : ℕ) → length os ≡ a → length ts ≡ b → d ≡ p + 2 → (x : ℕ) → x ≡ root → Sections (length os) (length ts) x d ≡ Sections a b root (p + 2)
+      same : (a b d : ℕ) → length os ≡ a → length ts ≡ b → d ≡ p + 2 → (x : ℕ) → x ≡ root
+          → Sections (length os) (length ts) x d ≡ Sections a b root (p + 2)
       same a b d ea eb ed x ex = cc
 
       alone : (l rest : List ℕ) → length l ≡ 1 → Part maxRoots ws p l rest → treeFound ws (withRoot os ts (part l rest)) ≡ Sections o t root (p + 2)
@@ -144,7 +147,8 @@ module _ (ws : List ℕ) (p : ℕ) where
           let there = s .within in
           let gone = ap length (s .follows) ∙ length-drop (p + 1 + 1) ws in
           let zeroth : p + 1 + 0 ≡ p + 1 = omega arith in
-          let entry : x ≡ at ws (p + 1) = ap (λ (l : List ℕ). at l 0) (s .numbers) ∙ getD-take 1 (drop (p + 1) ws) 0 0 (omega arith) ∙ getD-drop (p + 1) ws 0 0 ∙ ap (at ws) zeroth in
+          let entry : x ≡ at ws (p + 1) =
+          ap (λ (l : List ℕ). at l 0) (s .numbers) ∙ getD-take 1 (drop (p + 1) ws) 0 0 (omega arith) ∙ getD-drop (p + 1) ws 0 0 ∙ ap (at ws) zeroth in
           same o t (length ws - length rest) eo et (omega arith) x (entry ∙ sym is)
 
 -- what was found is a tree, and the place behind it

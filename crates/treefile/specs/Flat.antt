@@ -2,33 +2,17 @@
 use Prim.Native.Nat.{ℕ, zero, suc, _+_, _*_, _^_, _≤_, _<_}
 use mathlib.Core.Path.{_≡_}
 use mathlib.Core.List.{List, [], _∷_, _++_}
-use lib.Dec.{eqb}
 use lib.ListN.{length}
-use Rattle.sums.specs.Sum.{at}
-use Rattle.answers.specs.Choice.{pick}
 use Rattle.tables.specs.Tables.{Six}
+use Rattle.ranges.specs.Flat.{stride, rangesIn}
 use Rattle.ranges.specs.Calls.{Answered, refused, listed, rangesOf}
-use Rattle.ranges.specs.declared.kinds.Direction.{Direction}
-use Rattle.ranges.specs.declared.kinds.Direction.the-variants.{Forward, Reversed}
 use Rattle.ranges.specs.declared.kinds.PathRange.{PathRange}
 use Rattle.ranges.specs.declared.kinds.Kind.{Kind}
 use Rattle.answers.specs.declared.answer.Listed.{Listed}
 use Rattle.answers.specs.declared.answer.Listed.the-variants.{Count, Refused}
 use Rattle.treefile.specs.Report.{decimal, space, listText}
-use Rattle.treefile.specs.Sizes.{mostRanges, rangeDigits}
+use Rattle.treefile.specs.Sizes.{fileRanges, rangeDigits}
 use Rattle.treefile.specs.Writing.{Room}
-
-abbrev pub directionOf : ℕ → Direction
-directionOf d = pick (eqb d 0) Forward Reversed
-
--- the range that stands at place i of a flat list, three numbers to a range
-unfoldable pub rangeAt : List ℕ → ℕ → PathRange
-rangeAt l i = record { start = at l (3 * i); end = at l (3 * i + 1); direction = directionOf (at l (3 * i + 2)) }
-
--- the first k ranges of a flat list
-abbrev pub rangesIn : ℕ → List ℕ → List PathRange
-rangesIn zero l = []
-rangesIn (suc k) l = rangesIn k l ++ (rangeAt l k ∷ [])
 
 -- what an answer and the list that was left say together
 abbrev pub answeredIn : Listed → List ℕ → Answered
@@ -42,12 +26,12 @@ listedText a l = listText (answeredIn a l)
 -- how many numbers of the list an answer speaks of
 abbrev pub spokenOf : Listed → ℕ
 spokenOf (Refused x) = 0
-spokenOf (Count k) = 3 * k
+spokenOf (Count k) = stride * k
 
 -- how many numbers an answer takes in a flat list
-abbrev pub numbersOf : Answered → ℕ
-numbersOf (refused x) = 0
-numbersOf (listed l) = 3 * length l
+abbrev pub takenBy : Answered → ℕ
+takenBy (refused x) = 0
+takenBy (listed l) = stride * length l
 
 -- the list holds the ranges of the answer, and their text fits
 pub record ListRoom (a : Listed) (l : List ℕ) (at : ℕ) (out : List ℕ) : Type 0 where
@@ -61,7 +45,7 @@ Low m (r ∷ l) = (r .start < m) × (r .end < m) × Low m l
 
 -- no more ranges than a path of the program's trees has, and of no more digits
 pub record Short (l : List PathRange) : Type 0 where
-  pub few : length l ≤ mostRanges
+  pub few : length l ≤ fileRanges
   pub low : Low (10 ^ rangeDigits) l
 
 -- every list of ranges of these tables is short

@@ -10,7 +10,8 @@ use Rattle.treefile.specs.File.{Query, Parsed, badFile, file, parseAs, m
 -- the counts of a well-formed file and its root
 abbrev pub shapeOf : Parsed → Shape
 shapeOf badFile = record { good = false; offsets = 0; targets = 0; root = 0; queries = 0 }
-shapeOf (file f) = record { good = true; offsets = length (f .tree .offsets); targets = length (f .tree .targets); root = f .tree .root; queries = length (f .queries) }
+shapeOf (file f) =
+    record { good = true; offsets = length (f .tree .offsets); targets = length (f .tree .targets); root = f .tree .root; queries = length (f .queries) }
 
 abbrev pub offsetsOf : Parsed → List ℕ
 offsetsOf badFile = []

@@ -6,8 +6,8 @@ abbrev pub mostDigits : ℕ
 mostDigits = 20
 
 -- "more than 1,025 offsets" is a BadFile, so the program's trees have at most 1,024 vertices: a path has at most 2·floor(log2 1,024)+1 ranges
-abbrev pub mostRanges : ℕ
-mostRanges = 21
+abbrev pub fileRanges : ℕ
+fileRanges = 21
 
 -- and its ranges end at 2·1,024-1 at the latest, so their numbers are below 10 ^ 4
 abbrev pub rangeDigits : ℕ
@@ -21,7 +21,7 @@ rangeSize digits = 2 * digits + 2
 abbrev pub answerSize : (digits ranges : ℕ) → ℕ
 answerSize digits ranges = mostDigits + ranges * (1 + rangeSize digits)
 
--- "for each query its place from 1, kind, code, and the answer": what stands before the code is two numbers, each with a space, and a line's end follows
+-- "for each query its place from 1, kind, code, and the answer": two numbers, each with a space, the answer with its code, and the line's end
 abbrev pub lineSize : (digits ranges : ℕ) → ℕ
 lineSize digits ranges = 2 * (mostDigits + 1) + answerSize digits ranges + 1
 

@@ -1,5 +1,6 @@
-// Ranges as start-end with R or F, read from a flat list of three numbers to a range.
+// Ranges as start-end with R or F, read from a flat list.
 use crate::numbers;
+use ranges::flat::range_at;
 use ranges::kinds::Direction;
 use ranges::kinds::PathRange;
 ghost use mathlib.Core.Path.{_≡_};
@@ -7,7 +8,7 @@ ghost use mathlib.Core.List.{_++_};
 ghost use Prim.Native.Nat.{_+_, _*_, _≤_};
 ghost use lib.ListN.{length};
 ghost use Rattle.treefile.specs.Report.{space, letter as letterOf, rangeText, rangesText};
-ghost use Rattle.treefile.specs.Flat.{directionOf, rangeAt, rangesIn};
+ghost use Rattle.ranges.specs.Flat.{stride, rangeAt, rangesIn};
 ghost use Rattle.treefile.specs.Writing.{Room, Puts};
 
 // The letter of a direction.
@@ -17,30 +18,6 @@ fn letter(direction: Direction) -> u8
     match direction {
         Direction::Forward => 70,
         Direction::Reversed => 82,
-    }
-}
-
-// The direction of a number: 0 is Forward, any other Reversed.
-fn direction_of(d: u32) -> Direction
-    ensures { λ r. ⌜ r ≡ directionOf d ⌝ }
-{
-    if d == 0 {
-        Direction::Forward
-    } else {
-        Direction::Reversed
-    }
-}
-
-// The range at place i of a flat list.
-fn range_at(flat: &[u32], i: usize) -> PathRange
-    requires { ⌜ 3 * i + 3 ≤ length (now flat) ⌝ }
-    ensures { λ r. ⌜ r ≡ rangeAt (now (flat .entry)) i ⌝ }
-{
-    let direction = direction_of(flat[3 * i + 2]);
-    PathRange {
-        start: flat[3 * i] as usize,
-        end: flat[3 * i + 1] as usize,
-        direction,
     }
 }
 
@@ -58,7 +35,7 @@ pub fn put_range(out: &mut [u8], at: usize, range: PathRange) -> usize
 
 // A space, and the range at place i of a flat list behind it.
 fn put_range_at(out: &mut [u8], at: usize, flat: &[u32], i: usize) -> usize
-    requires { ⌜ (3 * i + 3 ≤ length (now flat)) × Room (space ++ rangeText (rangeAt (now flat) i)) at (now out) ⌝ }
+    requires { ⌜ (stride * i + stride ≤ length (now flat)) × Room (space ++ rangeText (rangeAt (now flat) i)) at (now out) ⌝ }
     ensures { λ r. ⌜ Puts (space ++ rangeText (rangeAt (now (flat .entry)) i)) at (now (out .entry)) (now (out .exit)) r ⌝ }
 {
     let next = numbers::put_byte(out, at, 32);
@@ -67,7 +44,7 @@ fn put_range_at(out: &mut [u8], at: usize, flat: &[u32], i: usize) -> usize
 
 // The first ranges of a flat list, each behind a space.
 pub fn put_ranges(out: &mut [u8], at: usize, flat: &[u32], count: usize) -> usize
-    requires { ⌜ (3 * count ≤ length (now flat)) × Room (rangesText (rangesIn count (now flat))) at (now out) ⌝ }
+    requires { ⌜ (stride * count ≤ length (now flat)) × Room (rangesText (rangesIn count (now flat))) at (now out) ⌝ }
     ensures { λ r. ⌜ Puts (rangesText (rangesIn count (now (flat .entry)))) at (now (out .entry)) (now (out .exit)) r ⌝ }
 {
     let mut next = at;

@@ -24,8 +24,8 @@ pub fn copy_tree(
     words::copy_numbers(bytes, width, p + o + 2, t, targets);
 }
 
-// Judges the bytes by numbers of this width, and copies only what is well-formed: a bad file leaves the buffers as they were. The queries are the last
-// numbers.
+// Judges the bytes by numbers of this width, and copies only what is well-formed: a bad file leaves the buffers as they were. The queries are the
+// last numbers.
 pub fn parse_as(
     bytes: &[u8],
     width: Width,

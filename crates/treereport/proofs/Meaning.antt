@@ -90,7 +90,8 @@ module _ (bytes : List ℕ) {out out′ : List ℕ} {r : ℕ} (w : Reports bytes
         as-judged (treeWord ++ (decimal c ++ newline)) j (refused-report c t f d ∙ tree-refused c (length (f .tree .offsets) - 1) (f .tree .root) d)
 
     -- "Else the first line is `tree`, code, n, root; then for each query" its line, with the answer that the calls give on the tree's tables
-    pub report-built : (t : Six) → First (treeTests (f .tree)) done → TablesOf (vertices (f .tree .offsets)) (listOf (f .tree .offsets) (f .tree .targets)) (f .tree .root) t
+    pub report-built : (t : Six) → First (treeTests (f .tree)) done
+        → TablesOf (vertices (f .tree .offsets)) (listOf (f .tree .offsets) (f .tree .targets)) (f .tree .root) t
         → Begins out out′ r ((treeWord ++ (fields (0 ∷ vertices (f .tree .offsets) ∷ f .tree .root ∷ []) ++ newline)) ++ queryLines t 1 (f .queries))
     report-built t first tables =
         let n : ℕ = vertices (f .tree .offsets) in

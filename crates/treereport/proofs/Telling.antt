@@ -14,7 +14,7 @@ use Rattle.answers.specs.Choice.{pick}
 use Rattle.treefile.specs.File.{TreeFile, file, maxQueries}
 use Rattle.treefile.specs.Report.{treeLine, queryLines, fileReport}
 use Rattle.treefile.specs.Flat.{ShortLists}
-use Rattle.treefile.specs.Sizes.{mostRanges, rangeDigits, reportSize}
+use Rattle.treefile.specs.Sizes.{fileRanges, rangeDigits, reportSize}
 use Rattle.treefile.specs.Parsing.{front}
 use Rattle.treefile.specs.Writing.{Room, Puts}
 use Rattle.treefile.proofs.Writing.{puts-then, puts-as, room-then}
@@ -30,14 +30,16 @@ abbrev lineOf : ℕ → TreeFile → List ℕ
 lineOf code f = treeLine code (length (f .tree .offsets) - 1) (f .tree .root)
 
 -- the report of a refused tree is its line, that of another has the lines of the queries behind it
-pub refused-report : (code : ℕ) (t : Six) (f : TreeFile) → (code ≡ 0 → ⊥) → fileReport code t f ≡ treeLine code (length (f .tree .offsets) - 1) (f .tree .root)
+pub refused-report : (code : ℕ) (t : Six) (f : TreeFile) → (code ≡ 0 → ⊥)
+    → fileReport code t f ≡ treeLine code (length (f .tree .offsets) - 1) (f .tree .root)
 refused-report code t f ne = ap (λ (b : Bool). lineOf code f ++ pick b (queryLines t 1 (f .queries)) []) (ne-eqb code 0 ne) ∙ append-nil (lineOf code f)
 
-pub built-report : (code : ℕ) (t : Six) (f : TreeFile) → code ≡ 0 → fileReport code t f ≡ treeLine code (length (f .tree .offsets) - 1) (f .tree .root) ++ queryLines t 1 (f .queries)
+pub built-report : (code : ℕ) (t : Six) (f : TreeFile) → code ≡ 0
+    → fileReport code t f ≡ treeLine code (length (f .tree .offsets) - 1) (f .tree .root) ++ queryLines t 1 (f .queries)
 built-report code t f e = ap (λ (b : Bool). lineOf code f ++ pick b (queryLines t 1 (f .queries)) []) (eq-eqb code 0 e)
 
 -- the largest report fits
-room-enough : reportSize rangeDigits mostRanges maxQueries ≤ reportRoom
+room-enough : reportSize rangeDigits fileRanges maxQueries ≤ reportRoom
 unfolding maxQueries reportRoom
 room-enough = omega arith
 
@@ -51,7 +53,8 @@ module _ {os ts : List ℕ} {root : ℕ} {qs : List ℕ} {count : ℕ} {t t′ :
   line-as : {n r : ℕ} {out′ : List ℕ} → n ≡ vertices os → Puts (treeLine c n root) 0 out out′ r → Puts (treeLine c (vertices os) root) 0 out out′ r
   line-as e p = puts-as (ap (λ (k : ℕ). treeLine c k root) e) p
 
-  pub told-refused : {n r : ℕ} {out′ : List ℕ} → (c ≡ 0 → ⊥) → n ≡ vertices os → Puts (treeLine c n root) 0 out out′ r → Told (fileOf os ts root qs count) t t′ out out′ r
+  pub told-refused : {n r : ℕ} {out′ : List ℕ} → (c ≡ 0 → ⊥) → n ≡ vertices os → Puts (treeLine c n root) 0 out out′ r
+      → Told (fileOf os ts root qs count) t t′ out out′ r
   unfolding reportRoom
   told-refused {n} {r} ne e p =
       record {
@@ -65,7 +68,8 @@ module _ {os ts : List ℕ} {root : ℕ} {qs : List ℕ} {count : ℕ} {t t′ :
   short : c ≡ 0 → ShortLists t′
   short e = short-lists (b .written e) (few-vertices (a .file))
 
-  whole-room : (e : c ≡ 0) → length (treeLine c (vertices os) root ++ queryLines t′ 1 (queriesOf count qs)) ≤ reportSize rangeDigits mostRanges maxQueries
+  whole-room : (e : c ≡ 0)
+      → length (treeLine c (vertices os) root ++ queryLines t′ 1 (queriesOf count qs)) ≤ reportSize rangeDigits fileRanges maxQueries
   unfolding maxQueries
   whole-room e =
       let l = queries-count count qs in
@@ -78,7 +82,8 @@ module _ {os ts : List ℕ} {root : ℕ} {qs : List ℕ} {count : ℕ} {t t′ :
   lines-ask e same p =
       record { short = short e; there = a .file .there; room = room-then (line-as same p) (record { fits = omega (arith, whole-room e, room-enough, a .file .room) }) }
 
-  pub told-built : {n m r : ℕ} {out′ out″ : List ℕ} → c ≡ 0 → n ≡ vertices os → Puts (treeLine c n root) 0 out out′ m → Puts (queryLines t′ 1 (queriesOf count qs)) m out′ out″ r
+  pub told-built : {n m r : ℕ} {out′ out″ : List ℕ} → c ≡ 0 → n ≡ vertices os → Puts (treeLine c n root) 0 out out′ m
+      → Puts (queryLines t′ 1 (queriesOf count qs)) m out′ out″ r
       → Told (fileOf os ts root qs count) t t′ out out″ r
   unfolding reportRoom
   told-built e same p q =

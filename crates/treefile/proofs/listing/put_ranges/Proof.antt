@@ -5,7 +5,7 @@ use mathlib.Core.Path.{ap, _≡_}
 use Rattle.treefile.proofs.Writing.{puts-as, puts-length, puts-none}
 use Prim.Native.Nat.{ℕ, _≤_, _-_}
 use Rattle.treefile.specs.Report.{rangesText}
-use Rattle.treefile.specs.Flat.{rangesIn}
+use Rattle.ranges.specs.Flat.{rangesIn}
 use Rattle.treefile.specs.Writing.{Puts}
 use Rattle.treefile.proofs.Flat.{ranges-room, ranges-more}
 
