@@ -52,7 +52,8 @@ module _ (os ts up level w : List ℕ) (a : GraphAsks os ts up level w) {w₁ : 
       }
 
   -- and is
-  pub is-tree : c ≡ done → {up′ level′ w₂ : List ℕ} → Decomposed os ts (vertices os) up′ level′ w₁ w₂ → GraphDecomposed os ts up level w up′ level′ w₂ done
+  pub is-tree : c ≡ done → {up′ level′ w₂ : List ℕ} → Decomposed os ts (vertices os) up′ level′ w₁ w₂
+      → GraphDecomposed os ts up level w up′ level′ w₂ done
   is-tree z d =
       record {
         code = subst (First (graphTests os ts 0)) z (j .code);

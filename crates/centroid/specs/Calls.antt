@@ -33,7 +33,8 @@ TwoOf os ts t = DecompositionOf (vertices os) (listOf os ts) (t .up) (t .level)
 -- `try_centroid_decomposition` with tables up, level and work w answers c and leaves up′, level′, w′
 abbrev pub Decomposes : (os ts up level w up′ level′ w′ : List ℕ) (c : ℕ) → Type 0
 Decomposes os ts up level w up′ level′ w′ c =
-    GraphCall os ts (Fits os ts (TwoLong (vertices os) (two up level))) (decomposing os ts up level (length w)) (TwoOf os ts) (two up level) (two up′ level′) w w′ c
+    GraphCall os ts (Fits os ts (TwoLong (vertices os) (two up level))) (decomposing os ts up level (length w))
+    (TwoOf os ts) (two up level) (two up′ level′) w w′ c
 
 -- the lists fit their room
 pub record Fitting (os ts : List ℕ) (vs ds bs : List ℕ) : Type 0 where

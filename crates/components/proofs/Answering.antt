@@ -61,7 +61,8 @@ module _ (os ts vs ds bs ss w : List ℕ) (b : Begun os ts w) where
       passed = sound-rooted (passed-sound os ts 0 judged)
 
       -- the code once the lists decide
-      last : (d : ℕ) → First (test noRoom (Fitting os ts vs ds bs) ∷ []) d → First (test noRoom (vertices os + 1 ≤ length ss) ∷ listTests os ts vs ds bs) d
+      last : (d : ℕ) → First (test noRoom (Fitting os ts vs ds bs) ∷ []) d
+          → First (test noRoom (vertices os + 1 ≤ length ss) ∷ listTests os ts vs ds bs) d
       last d f = inr (starts, first-back (graphTests os ts 0) (test noRoom (Fitting os ts vs ds bs) ∷ []) d judged f)
 
       -- the levels can be found

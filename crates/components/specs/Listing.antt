@@ -79,4 +79,5 @@ pub record AllListed (os ts : List ℕ) (n : ℕ) (vs ds bs ss w vs′ ds′ bs�
 -- the tests behind the limits and the room of work, that of the starts first, and the lists, with work still in use
 abbrev pub GraphListed : (os ts vs ds bs ss w vs′ ds′ bs′ ss′ w′ : List ℕ) (c : ℕ) → Type 0
 GraphListed os ts vs ds bs ss w vs′ ds′ bs′ ss′ w′ c =
-    GraphPart os ts (test noRoom (vertices os + 1 ≤ length ss) ∷ listTests os ts vs ds bs) (FourOf os ts vs ds bs ss) (four vs ds bs ss) (four vs′ ds′ bs′ ss′) w w′ c
+    GraphPart os ts (test noRoom (vertices os + 1 ≤ length ss) ∷ listTests os ts vs ds bs)
+    (FourOf os ts vs ds bs ss) (four vs ds bs ss) (four vs′ ds′ bs′ ss′) w w′ c

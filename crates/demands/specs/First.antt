@@ -1,8 +1,8 @@
 -- Tender, condition 1: "Every public call ends without a fault on every input, and gives the refusal that document 01 fixes, with the stated memory
 -- afterwards."
 -- No public call has a `requires`. Its proof then says that it ends without a fault on every input and that its contract holds; so there is nothing
--- to state of that here. The rest of the sentence is stated of the contracts. The calls that take a graph (`Validates`, `Builds`, `Decomposes`, `Lists`)
--- have what they have in common in one contract, `GraphCall`.
+-- to state of that here. The rest of the sentence is stated of the contracts. The calls that take a graph (`Validates`, `Builds`, `Decomposes`,
+-- `Lists`) have what they have in common in one contract, `GraphCall`.
 use Prim.Native.Nat.{ℕ, _+_, _*_, _<_}
 use mathlib.Core.Path.{_≡_}
 use mathlib.Core.Logic.{_≢_, _↔_}

@@ -38,7 +38,8 @@ pub still-begun : {os ts w w₁ : List ℕ} → Begun os ts w → Only 0 (roomOf
 still-begun b o = record { sized = b .sized; room = (let r = b .room in let l = o .same-length in omega arith) }
 
 -- after `begin` answered 0, told of the tables by b, these fit
-pub begun-fits : {os ts : List ℕ} {b : Bool} {roomy : Type 0} {c : ℕ} → First (opening (Fits os ts (b ≡ true)) roomy []) c → c ≡ done → Fits os ts (b ≡ true)
+pub begun-fits : {os ts : List ℕ} {b : Bool} {roomy : Type 0} {c : ℕ} → First (opening (Fits os ts (b ≡ true)) roomy []) c → c ≡ done
+    → Fits os ts (b ≡ true)
 begun-fits (inl p) z = absurd (let e = p .1 in omega arith)
 begun-fits (inr p) z = p .0
 
@@ -49,7 +50,8 @@ begun (inr (f, inl p)) z = absurd (let e = p .1 in omega arith)
 begun (inr (f, inr p)) z = record { sized = f .sized; room = p .0 }
 
 -- a call that `begin` refuses leaves all as it was
-pub not-begun : {M : Type 0} {os ts : List ℕ} {fits roomy : Type 0} {rest : List Test} {Written : M → Type 0} {lent : M} {w : List ℕ} {b : Bool} {c : ℕ}
+pub not-begun :
+    {M : Type 0} {os ts : List ℕ} {fits roomy : Type 0} {rest : List Test} {Written : M → Type 0} {lent : M} {w : List ℕ} {b : Bool} {c : ℕ}
     → fits ↔ Fits os ts (b ≡ true) → (roomy → roomOf os ts ≤ length w)
     → First (opening (Fits os ts (b ≡ true)) (roomOf os ts ≤ length w) []) c → c ≢ done
     → GraphCall os ts fits (opening fits roomy rest) Written lent lent w w c

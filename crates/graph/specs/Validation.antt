@@ -54,11 +54,13 @@ pub record Leaves (sized : Type 0) (room : ℕ) (w w′ : List ℕ) : Type 0 whe
 -- What all calls that take a graph have in common. A call is lent the graph, work w, and other memory `lent`: tables, lists, or nothing. It answers
 -- the code of the first of its tests that is not passed; after 0 what it is to write stands in the memory that it left; a refused call "writes no
 -- table and no list"; work is left as 01 says.
-pub record GraphCall {M : Type 0} (os ts : List ℕ) (fits : Type 0) (tests : List Test) (Written : M → Type 0) (lent left : M) (w w′ : List ℕ) (c : ℕ) : Type 0 where
-  pub code : First tests c
-  pub written : c ≡ done → Written left
-  pub refused : c ≢ done → left ≡ lent
-  pub work : Leaves fits (roomOf os ts) w w′
+pub record GraphCall {M : Type 0} (os ts : List ℕ) (fits : Type 0) (tests : List Test) (Written : M → Type 0) (lent left : M) (w w′ : List ℕ) (c : ℕ)
+    : Type 0
+  where
+    pub code : First tests c
+    pub written : c ≡ done → Written left
+    pub refused : c ≢ done → left ≡ lent
+    pub work : Leaves fits (roomOf os ts) w w′
 
 -- "A build, or validation alone, tests 1 to 8 in that order": for work of `room` entries
 abbrev pub validation : List ℕ → List ℕ → ℕ → ℕ → List Test

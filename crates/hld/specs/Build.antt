@@ -14,4 +14,5 @@ building os ts root t room = opening (Fits os ts (Long (vertices os) t)) (roomOf
 -- `try_hld` with tables t and work w answers c and leaves t′ and w′; after 0 they are the tables of the tree from the root
 abbrev pub Builds : (os ts : List ℕ) (root : ℕ) (t : Six) (w : List ℕ) (t′ : Six) (w′ : List ℕ) (c : ℕ) → Type 0
 Builds os ts root t w t′ w′ c =
-    GraphCall os ts (Fits os ts (Long (vertices os) t)) (building os ts root t (length w)) (λ (m : Six). TablesOf (vertices os) (listOf os ts) root m) t t′ w w′ c
+    GraphCall os ts (Fits os ts (Long (vertices os) t)) (building os ts root t (length w))
+    (λ (m : Six). TablesOf (vertices os) (listOf os ts) root m) t t′ w w′ c
