@@ -31,7 +31,7 @@ use Rattle.answers.specs.declared.answer.Listed.{Listed}
 use Rattle.answers.specs.declared.answer.Listed.the-variants.{Count, Refused as NotListed}
 use Rattle.records.specs.Records.{RecordedAs}
 use Rattle.records.proofs.Reading.{records-one}
-use Rattle.centroid.specs.Calls.{Front, Lists}
+use Rattle.centroid.specs.Calls.{Two, Four, Front, Lists}
 use Rattle.centroidlaws.proofs.SameLists.{lists-even}
 use Rattle.centroidlaws.proofs.Determined.{decomposes-one, lists-call-one, listing-passed}
 use Rattle.demands.specs.First.{Refusals, NothingWritten, PastCount, WorkLeft, Determined, FirstDemand}
@@ -151,7 +151,14 @@ lists-past {os} {ts} {vs} {ds} {bs} {ss} {w} {ss′ = ss′} p =
 -- a refusal writes no table and no list
 nothing-written : NothingWritten
 nothing-written = record {
-  graph-calls = λ p h. p .refused h;
+  try-hld = λ p h. p .refused h;
+  decomposition = λ p h. (ap (λ (t : Two). t .up) (p .refused h), ap (λ (t : Two). t .level) (p .refused h));
+  component-lists = λ p h. let e = p .refused h in (
+    ap (λ (m : Four). m .vertices) e,
+    ap (λ (m : Four). m .distances) e,
+    ap (λ (m : Four). m .branches) e,
+    ap (λ (m : Four). m .starts) e,
+  );
   ranges = λ {a} p h. ranges-kept a p h;
   range-records = λ {a} p h. records-kept a p h;
 }
@@ -162,7 +169,7 @@ past-count = record { ranges = λ {a} p. ranges-past a p; range-records = λ {a}
 
 -- work is left as 01 says
 work-left : WorkLeft
-work-left = record { graph-calls = λ p. p .work }
+work-left = record { validate-tree = λ p. p .work; try-hld = λ p. p .work; decomposition = λ p. p .work; component-lists = λ p. p .work }
 
 -- every contract determines its call's results
 determined : Determined

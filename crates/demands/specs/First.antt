@@ -11,10 +11,10 @@ use mathlib.Core.List.{List, []}
 use lib.ListN.{length, drop}
 use Rattle.sums.specs.Sum.{at}
 use Rattle.answers.specs.Codes.{done, noRoom}
-use Rattle.graph.specs.Judgement.{Test, First}
+use Rattle.graph.specs.Judgement.{First}
 use Rattle.graph.specs.Lent.{vertices}
-use Rattle.graph.specs.Validation.{roomOf, opening, Leaves, GraphCall, validation, Validates}
-use Rattle.tables.specs.Tables.{Six}
+use Rattle.graph.specs.Validation.{Sized, Fits, roomOf, Leaves, validation, Validates}
+use Rattle.tables.specs.Tables.{Six, Long}
 use Rattle.hld.specs.Build.{building, Builds}
 use Rattle.answers.specs.Asked.{vertices?}
 use Rattle.climb.specs.Asked.{sizeOf, tables?, asked}
@@ -30,7 +30,7 @@ use Rattle.ranges.specs.declared.kinds.PathRange.{PathRange}
 use Rattle.answers.specs.declared.answer.Listed.{Listed}
 use Rattle.answers.specs.declared.answer.Listed.the-variants.{Count}
 use Rattle.records.specs.Records.{RecordedAs}
-use Rattle.centroid.specs.Calls.{decomposing, Decomposes, listing, Lists}
+use Rattle.centroid.specs.Calls.{two, TwoLong, decomposing, Decomposes, listing, Lists}
 
 -- "gives the refusal that document 01 fixes": the code of the first test, in 01's order, that is not passed
 pub record Refusals : Type 1 where
@@ -58,11 +58,13 @@ pub record Refusals : Type 1 where
   pub no-count : (a : Listed) → listedCode a ≢ done → listedValues a ≡ []
 
 -- "It writes no table and no list."
-pub record NothingWritten : Type 1 where
-  -- of every call that takes a graph: what it left in the memory that it was lent is what was there
-  pub graph-calls :
-      {M : Type 0} {os ts w w′ : List ℕ} {fits : Type 0} {tests : List Test} {Written : M → Type 0} {lent left : M} {c : ℕ}
-      → GraphCall os ts fits tests Written lent left w w′ c → c ≢ done → left ≡ lent
+pub record NothingWritten : Type 0 where
+  pub try-hld : {os ts w w′ : List ℕ} {root c : ℕ} {t t′ : Six} → Builds os ts root t w t′ w′ c → c ≢ done → t′ ≡ t
+  pub decomposition :
+      {os ts up level w up′ level′ w′ : List ℕ} {c : ℕ} → Decomposes os ts up level w up′ level′ w′ c → c ≢ done → (up′ ≡ up) × (level′ ≡ level)
+  pub component-lists :
+      {os ts vs ds bs ss w vs′ ds′ bs′ ss′ w′ : List ℕ} {c : ℕ} → Lists os ts vs ds bs ss w vs′ ds′ bs′ ss′ w′ c
+      → c ≢ done → (vs′ ≡ vs) × (ds′ ≡ ds) × (bs′ ≡ bs) × (ss′ ≡ ss)
   pub ranges : {a : Answered} {lent left : List ℕ} {r : Listed} → ListedAs a lent left r → listedCode r ≢ done → left ≡ lent
   pub range-records : {a : Answered} {lent left : List PathRange} {r : Listed} → RecordedAs a lent left r → listedCode r ≢ done → left ≡ lent
 
@@ -79,11 +81,15 @@ pub record PastCount : Type 0 where
 
 -- "Once the work room was long enough, the first 8n+E entries of work are zero afterwards, on any answer; the rest of work, and all of it before that
 -- test, is unchanged."
-pub record WorkLeft : Type 1 where
-  -- by every call that takes a graph; the test before that of the room is its first, that all fits
-  pub graph-calls :
-      {M : Type 0} {os ts w w′ : List ℕ} {fits roomy : Type 0} {rest : List Test} {Written : M → Type 0} {lent left : M} {c : ℕ}
-      → GraphCall os ts fits (opening fits roomy rest) Written lent left w w′ c → Leaves fits (roomOf os ts) w w′
+pub record WorkLeft : Type 0 where
+  pub validate-tree : {os ts w w′ : List ℕ} {root c : ℕ} → Validates os ts root w w′ c → Leaves (Sized os ts) (roomOf os ts) w w′
+  pub try-hld :
+      {os ts w w′ : List ℕ} {root c : ℕ} {t t′ : Six} → Builds os ts root t w t′ w′ c → Leaves (Fits os ts (Long (vertices os) t)) (roomOf os ts) w w′
+  pub decomposition :
+      {os ts up level w up′ level′ w′ : List ℕ} {c : ℕ} → Decomposes os ts up level w up′ level′ w′ c
+      → Leaves (Fits os ts (TwoLong (vertices os) (two up level))) (roomOf os ts) w w′
+  pub component-lists :
+      {os ts vs ds bs ss w vs′ ds′ bs′ ss′ w′ : List ℕ} {c : ℕ} → Lists os ts vs ds bs ss w vs′ ds′ bs′ ss′ w′ c → Leaves (Sized os ts) (roomOf os ts) w w′
 
 -- 01, "How much a contract must tie down": "That two results allowed by it coincide is proved".
 pub record Determined : Type 1 where
