@@ -2,16 +2,16 @@
 // root, range, depth, id, distance, ancestor, size, lca, jump.
 use answers::answer::Answer;
 use answers::answer::Interval;
+use between::distance::distance;
+use between::jump::jump;
+use between::lca::lca;
 use libc::STDOUT_FILENO;
 use queries::ancestors::kth_ancestor;
-use queries::between::distance;
-use queries::between::jump;
-use queries::between::lca;
 use queries::reads::depth;
 use queries::reads::root;
 use queries::reads::vertex_id;
-use queries::sizes::subtree_range;
-use queries::sizes::subtree_size;
+use sizes::subtrees::subtree_range;
+use sizes::subtrees::subtree_size;
 
 // Prints a space and a number.
 fn print_value(x: usize) {

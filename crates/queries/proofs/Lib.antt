@@ -1,4 +1,2 @@
 pub mod Rising
 pub mod Reading
-pub mod Answering
-pub mod Counting

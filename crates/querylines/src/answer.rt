@@ -1,15 +1,15 @@
 // The answer to one query, as text.
 use answers::answer::Answer;
 use answers::answer::Listed;
+use between::distance::distance;
+use between::jump::jump;
+use between::lca::lca;
 use queries::ancestors::kth_ancestor;
-use queries::between::distance;
-use queries::between::jump;
-use queries::between::lca;
-use queries::sizes::subtree_size;
 use ranges::kinds::STRIDE;
 use ranges::lists::edge_path_ranges;
 use ranges::lists::vertex_edge_path_ranges;
 use ranges::lists::vertex_path_ranges;
+use sizes::subtrees::subtree_size;
 use treefile::lines::put_answer;
 use treefile::lines::put_list;
 ghost use mathlib.Core.Path.{_≡_};

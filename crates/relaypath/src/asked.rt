@@ -90,7 +90,7 @@ pub extern "C" fn relaypath_distance(
 ) -> u32
     ensures { λ code. ⌜ Handed (distanceOf (lent parent depth head id order size) u v) (now (answer .entry)) (now (answer .exit)) code ⌝ }
 {
-    let found = queries::between::distance(parent, depth, head, id, order, size, u, v);
+    let found = between::distance::distance(parent, depth, head, id, order, size, u, v);
     hand(found, answer)
 }
 
@@ -110,7 +110,7 @@ pub extern "C" fn relaypath_lca(
 ) -> u32
     ensures { λ code. ⌜ Handed (lcaOf (lent parent depth head id order size) r u v) (now (answer .entry)) (now (answer .exit)) code ⌝ }
 {
-    let found = queries::between::lca(parent, depth, head, id, order, size, r, u, v);
+    let found = between::lca::lca(parent, depth, head, id, order, size, r, u, v);
     hand(found, answer)
 }
 
@@ -149,7 +149,7 @@ pub extern "C" fn relaypath_jump(
 ) -> u32
     ensures { λ code. ⌜ Handed (jumpOf (lent parent depth head id order size) u v k) (now (answer .entry)) (now (answer .exit)) code ⌝ }
 {
-    let found = queries::between::jump(parent, depth, head, id, order, size, u, v, k);
+    let found = between::jump::jump(parent, depth, head, id, order, size, u, v, k);
     hand(found, answer)
 }
 
@@ -168,7 +168,7 @@ pub extern "C" fn relaypath_subtree_size(
 ) -> u32
     ensures { λ code. ⌜ Handed (subtreeSize (lent parent depth head id order size) r v) (now (answer .entry)) (now (answer .exit)) code ⌝ }
 {
-    let found = queries::sizes::subtree_size(parent, depth, head, id, order, size, r, v);
+    let found = sizes::subtrees::subtree_size(parent, depth, head, id, order, size, r, v);
     hand(found, answer)
 }
 
@@ -187,6 +187,6 @@ pub extern "C" fn relaypath_subtree_range(
 ) -> u32
     ensures { λ code. ⌜ HandedEnds (subtreeRange (lent parent depth head id order size) v) (now (start .entry)) (now (end .entry)) (now (start .exit)) (now (end .exit)) code ⌝ }
 {
-    let found = queries::sizes::subtree_range(parent, depth, head, id, order, size, v);
+    let found = sizes::subtrees::subtree_range(parent, depth, head, id, order, size, v);
     hand_ends(found, start, end)
 }

@@ -4,7 +4,7 @@ use Rattle.relaypath.proofs.asked.relaypath_distance.Statement.{stateme
 use Rattle.relaypath.proofs.asked.relaypath_distance.Tie as tie
 use Rattle.relaypath.proofs.asked.relaypath_distance.Reads as reads
 use Rattle.relaypath.proofs.asked.relaypath_distance.Lts as lts
-use Rattle.queries.proofs.between.distance.Reads as distance-reads
+use Rattle.between.proofs.distance.distance.Reads as distance-reads
 use Rattle.relaypath.proofs.handed.hand.Reads as hand-reads
 use Rattle.relaypath.proofs.Handing.{handed-as}
 

@@ -4,7 +4,7 @@ use Rattle.relaypath.proofs.asked.relaypath_jump.Statement.{statement}
 use Rattle.relaypath.proofs.asked.relaypath_jump.Tie as tie
 use Rattle.relaypath.proofs.asked.relaypath_jump.Reads as reads
 use Rattle.relaypath.proofs.asked.relaypath_jump.Lts as lts
-use Rattle.queries.proofs.between.jump.Reads as jump-reads
+use Rattle.between.proofs.jump.jump.Reads as jump-reads
 use Rattle.relaypath.proofs.handed.hand.Reads as hand-reads
 use Rattle.relaypath.proofs.Handing.{handed-as}
 

@@ -4,7 +4,7 @@ use Rattle.relaypath.proofs.asked.relaypath_lca.Statement.{statement}
 use Rattle.relaypath.proofs.asked.relaypath_lca.Tie as tie
 use Rattle.relaypath.proofs.asked.relaypath_lca.Reads as reads
 use Rattle.relaypath.proofs.asked.relaypath_lca.Lts as lts
-use Rattle.queries.proofs.between.lca.Reads as lca-reads
+use Rattle.between.proofs.lca.lca.Reads as lca-reads
 use Rattle.relaypath.proofs.handed.hand.Reads as hand-reads
 use Rattle.relaypath.proofs.Handing.{handed-as}
 

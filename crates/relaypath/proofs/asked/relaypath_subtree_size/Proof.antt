@@ -4,7 +4,7 @@ use Rattle.relaypath.proofs.asked.relaypath_subtree_size.Statement.{sta
 use Rattle.relaypath.proofs.asked.relaypath_subtree_size.Tie as tie
 use Rattle.relaypath.proofs.asked.relaypath_subtree_size.Reads as reads
 use Rattle.relaypath.proofs.asked.relaypath_subtree_size.Lts as lts
-use Rattle.queries.proofs.sizes.subtree_size.Reads as subtree-size-reads
+use Rattle.sizes.proofs.subtrees.subtree_size.Reads as subtree-size-reads
 use Rattle.relaypath.proofs.handed.hand.Reads as hand-reads
 use Rattle.relaypath.proofs.Handing.{handed-as}
 

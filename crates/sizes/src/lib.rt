@@ -1,0 +1,2 @@
+// Queries on subtrees: their numbers and sizes.
+pub mod subtrees;
