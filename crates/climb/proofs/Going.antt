@@ -14,8 +14,8 @@ use Rattle.numbering.proofs.Logs.{log2-word}
 use Rattle.tables.specs.Tables.{Six, six}
 use Rattle.answers.specs.Choice.{pick, both}
 use Rattle.climb.specs.Sound.{Stood, On, Unsound, standOn}
-use Rattle.climb.specs.Climbing.{leaveChain, climbing, climbTo, climbStart, uMoved, vMoved, ancestorOf}
-use Rattle.climb.specs.Inner.{hangs?, Seat, ClimbsFrom, ClimbedTo, Left}
+use Rattle.climb.specs.Climbing.{climbTo, ancestorOf}
+use Rattle.climb.specs.Inner.{climbStart, uMoved, vMoved, hangs?, Seat, ClimbsFrom, ClimbedTo, Left}
 use Rattle.climb.specs.declared.places.Place.{Place}
 use Rattle.climb.specs.declared.places.Climb.{Climb}
 use Rattle.climb.specs.declared.places.Reached.{Reached}
@@ -23,7 +23,7 @@ use Rattle.climb.specs.declared.places.Climbed.{Climbed}
 use Rattle.climb.specs.declared.places.Climbed.the-variants.{Met, Lost}
 use Rattle.answers.proofs.Choices.{pick-true, pick-false}
 use Rattle.climb.proofs.Reaching.{seat-stand, left-fewer, left-seat, left-lower, left-stand}
-use Rattle.climb.proofs.Climbs.{climb-met, climb-by, climb-by-u, climb-by-v, climb-from, climb-off-u, climb-off-v}
+use Rattle.climb.proofs.Climbs.{leaveChain, climbFrom, climb-met, climb-by, climb-by-u, climb-by-v, climb-from, climb-off-u, climb-off-v}
 
 -- the chains that both sides may still leave
 abbrev pub chainsLeft : ℕ → Climb → ℕ
@@ -40,7 +40,7 @@ pub record Going (P D H I : List ℕ) (chains u v : ℕ) (c : Climb) : Type 0 wh
   pub u-low : c .u .depth ≤ at D u
   pub v-low : c .v .depth ≤ at D v
   pub same : (o s : List ℕ)
-      → pick (both (hangs? (length P) D I (c .u)) (hangs? (length P) D I (c .v))) (climbing (suc (chainsLeft chains c)) (length P) (six P D H I o s) c) Lost
+      → pick (both (hangs? (length P) D I (c .u)) (hangs? (length P) D I (c .v))) (climbFrom (length P) (six P D H I o s) c) Lost
       ≡ climbTo (length P) (six P D H I o s) u v
 
 -- A chain is left only where its head hangs: a is whether it does, b whether the other side's does, and s and g whether the next place was reached
@@ -94,14 +94,14 @@ module _ (P D H I : List ℕ) (chains u v : ℕ) where
       module _ (h : c .v .top ≤ c .u .top) {r : Reached} (l : Left P D H I (c .u) (c .«u_count») r) where
         -- the climb by what was found above u
         u-same : (o s : List ℕ)
-            → pick (r .sound) (pick (both (hung (r .place)) (hung (c .v))) (climbing (chainsLeft chains c) (length P) (with o s) (uMoved c (r .place))) Lost) Lost
+            → pick (r .sound) (pick (both (hung (r .place)) (hung (c .v))) (climbFrom (length P) (with o s) (uMoved c (r .place))) Lost) Lost
             ≡ climbTo (length P) (with o s) u v
         u-same o s =
             sym (guard-u (hung (c .u)) (hung (c .v)) (r .sound) (hung (r .place))
-            (climb-by (λ q. climbing (chainsLeft chains c) (length P) (with o s) (uMoved c q)))
+            (climb-by (λ q. climbFrom (length P) (with o s) (uMoved c q)))
             (leaveChain (length P) (with o s) (c .u) (c .«u_count»)) (r .place) refl
             (left-stand P D H I (c .u) (g .u-seat) (c .«u_count») l (g .small) o s))
-            ∙ (ap (λ (x : Climbed). pick (both (hung (c .u)) (hung (c .v))) x Lost) (sym (climb-by-u (chainsLeft chains c) (length P) (with o s) c apart h))
+            ∙ (ap (λ (x : Climbed). pick (both (hung (c .u)) (hung (c .v))) x Lost) (sym (climb-by-u (length P) (with o s) c apart h))
             ∙ g .same o s)
 
         pub going-u-lost : r .sound ≡ false → (o s : List ℕ) → Lost ≡ climbTo (length P) (with o s) u v
@@ -121,7 +121,6 @@ module _ (P D H I : List ℕ) (chains u v : ℕ) where
           step-u =
               let f = u-fewer in
               let w = left-lower P D H I (c .u) (g .u-seat) (c .«u_count») l on in
-              let e : suc (chainsLeft chains (uMoved c (r .place))) ≡ chainsLeft chains c = omega (arith, g .v-few) in
               record {
                 limit = g .limit;
                 small = g .small;
@@ -131,9 +130,7 @@ module _ (P D H I : List ℕ) (chains u v : ℕ) where
                 v-seat = g .v-seat;
                 u-low = omega (arith, g .u-low);
                 v-low = g .v-low;
-                same = λ o s.
-                    ap (λ (k : ℕ). pick (both (hung (r .place)) (hung (c .v))) (climbing k (length P) (with o s) (uMoved c (r .place))) Lost) e
-                    ∙ (rw on at (u-same o s));
+                same = λ o s. rw on at (u-same o s);
               }
 
           pub going-u : {d : Climb} → d ≡ uMoved c (r .place) → Going P D H I chains u v d
@@ -142,14 +139,14 @@ module _ (P D H I : List ℕ) (chains u v : ℕ) where
       module _ (h : c .u .top < c .v .top) {r : Reached} (l : Left P D H I (c .v) (c .«v_count») r) where
         -- the climb by what was found above v
         v-same : (o s : List ℕ)
-            → pick (r .sound) (pick (both (hung (c .u)) (hung (r .place))) (climbing (chainsLeft chains c) (length P) (with o s) (vMoved c (r .place))) Lost) Lost
+            → pick (r .sound) (pick (both (hung (c .u)) (hung (r .place))) (climbFrom (length P) (with o s) (vMoved c (r .place))) Lost) Lost
             ≡ climbTo (length P) (with o s) u v
         v-same o s =
             sym (guard-v (hung (c .v)) (hung (c .u)) (r .sound) (hung (r .place))
-            (climb-by (λ q. climbing (chainsLeft chains c) (length P) (with o s) (vMoved c q)))
+            (climb-by (λ q. climbFrom (length P) (with o s) (vMoved c q)))
             (leaveChain (length P) (with o s) (c .v) (c .«v_count»)) (r .place) refl
             (left-stand P D H I (c .v) (g .v-seat) (c .«v_count») l (g .small) o s))
-            ∙ (ap (λ (x : Climbed). pick (both (hung (c .u)) (hung (c .v))) x Lost) (sym (climb-by-v (chainsLeft chains c) (length P) (with o s) c apart h))
+            ∙ (ap (λ (x : Climbed). pick (both (hung (c .u)) (hung (c .v))) x Lost) (sym (climb-by-v (length P) (with o s) c apart h))
             ∙ g .same o s)
 
         pub going-v-lost : r .sound ≡ false → (o s : List ℕ) → Lost ≡ climbTo (length P) (with o s) u v
@@ -169,7 +166,6 @@ module _ (P D H I : List ℕ) (chains u v : ℕ) where
           step-v =
               let f = v-fewer in
               let w = left-lower P D H I (c .v) (g .v-seat) (c .«v_count») l on in
-              let e : suc (chainsLeft chains (vMoved c (r .place))) ≡ chainsLeft chains c = omega (arith, g .u-few) in
               record {
                 limit = g .limit;
                 small = g .small;
@@ -179,9 +175,7 @@ module _ (P D H I : List ℕ) (chains u v : ℕ) where
                 v-seat = left-seat P D H I (c .v) (g .v-seat) (c .«v_count») l on;
                 u-low = g .u-low;
                 v-low = omega (arith, g .v-low);
-                same = λ o s.
-                    ap (λ (k : ℕ). pick (both (hung (c .u)) (hung (r .place))) (climbing k (length P) (with o s) (vMoved c (r .place))) Lost) e
-                    ∙ (rw on at (v-same o s));
+                same = λ o s. rw on at (v-same o s);
               }
 
           pub going-v : {d : Climb} → d ≡ vMoved c (r .place) → Going P D H I chains u v d
@@ -203,19 +197,16 @@ module _ (P D H I : List ℕ) {p q : Place} (pre : ClimbsFrom P D H I p q) where
   q-off : hangs? (length P) D I q ≡ false → (o s : List ℕ) → standOn (length P) (six P D H I o s) (q .vertex) ≡ Unsound
   q-off e o s = seat-stand P D H I q (pre .on-q) o s ∙ pick-false (On q) Unsound e
 
-  begun : (k : ℕ) → k ≡ 2 * log2 (length P) + 1 → (o s : List ℕ) (a b : Bool) → hangs? (length P) D I p ≡ a → hangs? (length P) D I q ≡ b
-      → pick (both a b) (climbing k (length P) (six P D H I o s) (climbStart p q)) Lost ≡ climbTo (length P) (six P D H I o s) (p .vertex) (q .vertex)
-  begun k e o s false b on-p on-q = climb-off-u (length P) (six P D H I o s) (p .vertex) (q .vertex) (p-off on-p o s)
-  begun k e o s true false on-p on-q = climb-off-v (length P) (six P D H I o s) (p .vertex) (q .vertex) (p-on on-p o s) (q-off on-q o s)
-  begun k e o s true true on-p on-q =
-      ap (λ (j : ℕ). climbing j (length P) (six P D H I o s) (climbStart p q)) e
-      ∙ sym (climb-from (length P) (six P D H I o s) (p .vertex) (q .vertex) (p-on on-p o s) (q-on on-q o s))
+  begun : (o s : List ℕ) (a b : Bool) → hangs? (length P) D I p ≡ a → hangs? (length P) D I q ≡ b
+      → pick (both a b) (climbFrom (length P) (six P D H I o s) (climbStart p q)) Lost ≡ climbTo (length P) (six P D H I o s) (p .vertex) (q .vertex)
+  begun o s false b on-p on-q = climb-off-u (length P) (six P D H I o s) (p .vertex) (q .vertex) (p-off on-p o s)
+  begun o s true false on-p on-q = climb-off-v (length P) (six P D H I o s) (p .vertex) (q .vertex) (q-off on-q o s)
+  begun o s true true on-p on-q = sym (climb-from (length P) (six P D H I o s) (p .vertex) (q .vertex) (p-on on-p o s) (q-on on-q o s))
 
   start : Going P D H I (log2 (length P)) (p .vertex) (q .vertex) (climbStart p q)
   start =
       let du : p .depth ≡ at D (p .vertex) = ap (λ (x : Place). x .depth) (pre .on-p .place) in
       let dv : q .depth ≡ at D (q .vertex) = ap (λ (x : Place). x .depth) (pre .on-q .place) in
-      let e : suc (2 * log2 (length P) - (0 + 0)) ≡ 2 * log2 (length P) + 1 = omega arith in
       record {
         limit = refl;
         small = pre .small;
@@ -225,7 +216,7 @@ module _ (P D H I : List ℕ) {p q : Place} (pre : ClimbsFrom P D H I p q) where
         v-seat = pre .on-q;
         u-low = omega arith;
         v-low = omega arith;
-        same = λ o s. begun (suc (2 * log2 (length P) - (0 + 0))) e o s (hangs? (length P) D I p) (hangs? (length P) D I q) refl refl;
+        same = λ o s. begun o s (hangs? (length P) D I p) (hangs? (length P) D I q) refl refl;
       }
 
   module _ {c : Climb} (new : c ≡ climbStart p q) where
@@ -278,7 +269,7 @@ module _ (P D H I : List ℕ) where
               ap (λ (b : Bool). pick b (Met c) Lost)
               (sym (ap (both (hangs? (length P) D I (c .u))) (one-head (c .u) (c .v) (g .u-seat) (g .v-seat) e) ∙ both-same (hangs? (length P) D I (c .u))))
               ∙ (ap (λ (x : Climbed). pick (both (hangs? (length P) D I (c .u)) (hangs? (length P) D I (c .v))) x Lost)
-              (sym (climb-met (chainsLeft chains c) (length P) (six P D H I o s) c e))
+              (sym (climb-met (length P) (six P D H I o s) c e))
               ∙ g .same o s);
           u-low = λ d f. let m : c ≡ d = cc in subst (λ (x : Climb). ancestorOf x .depth ≤ at D u) m (omega (arith, g .u-low));
           v-low = λ d f. let m : c ≡ d = cc in subst (λ (x : Climb). ancestorOf x .depth ≤ at D v) m (omega (arith, g .v-low));

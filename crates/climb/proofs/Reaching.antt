@@ -15,12 +15,11 @@ use Rattle.numbering.specs.Log.{log2}
 use Rattle.tables.specs.Tables.{Six, six}
 use Rattle.answers.specs.Choice.{pick, both}
 use Rattle.climb.specs.Sound.{sound?, Stood, On, Unsound, standOn, placeOf}
-use Rattle.climb.specs.Climbing.{leaveChain}
 use Rattle.climb.specs.Inner.{four, chained?, seated?, hangsFrom?, hangs?, above?, Reach, Stands, ReadsHead, ReachedOn, Rests, ReachedAbove, StoodOn, Seat, Leaves, Left}
 use Rattle.climb.specs.declared.places.Place.{Place}
 use Rattle.climb.specs.declared.places.Reached.{Reached}
 use Rattle.answers.proofs.Choices.{pick-same, pick-both, both-true}
-use Rattle.climb.proofs.Climbs.{leave-parentless, leave-worn, leave-stands}
+use Rattle.climb.proofs.Climbs.{leaveChain, leave-parentless, leave-worn, leave-stands}
 use Rattle.climb.proofs.Soundness.{Seated, stand-split, sound-split, seated-place, hangs-from, hangs-up}
 
 -- The tests on a chain, where the vertex is no higher than its head and both its numbers are below n: one sum tells.
@@ -240,7 +239,7 @@ module _ (P D H I : List ℕ) where
             equal-or-not (p .up) noParent
             (λ e. stuck (leave-parentless (length P) (with o s) p left e) (parentless e))
             (λ ne. elim (decLe (log2 (length P)) left) [
-              | yes h ↦ stuck (leave-worn (length P) (with o s) p left ne h) (worn h)
+              | yes h ↦ stuck (leave-worn (length P) (with o s) p left h) (worn h)
               | no h ↦
                   let few : left < log2 (length P) = omega arith in
                   ap (λ (x : Stood). pick (hangs? (length P) D I p) x Unsound) (sym (leave-stands (length P) (with o s) p left ne few))

@@ -19,6 +19,16 @@ use Rattle.climb.specs.declared.places.Reached.{Reached}
 use Rattle.climb.specs.declared.places.Climbed.{Climbed}
 use Rattle.climb.specs.declared.places.Climbed.the-variants.{Met, Lost}
 
+-- The state of a climb under way, with the number of chains that each side has left: as it begins, and after a move.
+abbrev pub climbStart : Place → Place → Climb
+climbStart p q = record { u = p; v = q; «u_count» = 0; «v_count» = 0 }
+
+abbrev pub uMoved : Climb → Place → Climb
+uMoved c p = record { u = p; v = c .v; «u_count» = c .«u_count» + 1; «v_count» = c .«v_count» }
+
+abbrev pub vMoved : Climb → Place → Climb
+vMoved c p = record { u = c .u; v = p; «u_count» = c .«u_count»; «v_count» = c .«v_count» + 1 }
+
 -- the four tables that a climb reads have one length
 pub record Even (P D H I : List ℕ) : Type 0 where
   pub depth : length D ≡ length P

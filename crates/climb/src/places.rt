@@ -1,7 +1,8 @@
 // A vertex that a query stands on, and the state of a climb.
 ghost use mathlib.Core.Path.{_≡_};
 ghost use Prim.Native.Nat.{_+_, _<_, _^_};
-ghost use Rattle.climb.specs.Climbing.{climbStart, uMoved, vMoved, ancestorOf};
+ghost use Rattle.climb.specs.Climbing.{ancestorOf};
+ghost use Rattle.climb.specs.Inner.{climbStart, uMoved, vMoved};
 
 // A vertex with what was read of it and of the head of its chain. `up` is the head's parent, NO_PARENT where it has none.
 pub struct Place {
