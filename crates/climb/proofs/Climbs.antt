@@ -5,7 +5,7 @@ use native.Mathlib.Decide.{decLt}
 use mathlib.Core.Path.{_≡_, refl, sym, ap, _∙_}
 use mathlib.Core.Bool.{Bool, true, false}
 use mathlib.Core.List.{List, []}
-use lib.Dec.{eqb, ltb}
+use lib.Dec.{eqb, leb, ltb}
 use lib.ListN.{length}
 use borrow.Author.Tests.{lt-ltb, le-ltb, le-leb, lt-leb, eq-eqb, ne-eqb, ltb-true, eqb-false}
 use Rattle.sums.specs.Sum.{at}
@@ -41,10 +41,6 @@ leave-stands n t p left ne h = rw (ne-eqb (p .up) noParent ne, lt-ltb left (log2
 pick-second : (b : Bool) (s : Stood) {r : Place} → pick b Unsound s ≡ On r → (b ≡ false) × (s ≡ On r)
 pick-second true s e = let z : _≡_ {A = ℕ} 0 1 = cc in absurd (omega arith)
 pick-second false s e = (refl, e)
-
-pick-first : (b : Bool) (s : Stood) {r : Place} → pick b s Unsound ≡ On r → (b ≡ true) × (s ≡ On r)
-pick-first true s e = (refl, e)
-pick-first false s e = let z : _≡_ {A = ℕ} 0 1 = cc in absurd (omega arith)
 
 -- the place above p is sound and less deep
 pub record Higher (n : ℕ) (D : List ℕ) (p r : Place) : Type 0 where
@@ -91,6 +87,43 @@ module _ (n : ℕ) (t : Six) (p q : Place) where
 
     pub ascending-v : (a b : ℕ) → p .top < q .top → ascending a b n t p q ≡ ascent-by (λ r. vLeaves q (v-on a b r)) (above n t q)
     ascending-v a b h = looks a b ∙ rw (ne-eqb (p .head) (q .head) apart, lt-leb (q .top) (p .top) h, look)
+
+-- What holds of a climb that strays and of two places on one chain, and stays when a side leaves its chain for the place above, holds of every climb.
+module _ (n : ℕ) (t : Six) (K : (a b : ℕ) → (p q : Place) → Ascent → Type 0)
+    (stray : (a b : ℕ) (p q : Place) → K a b p q strays)
+    (met : (a b : ℕ) (p q : Place) → K a b p q (meets [] [] p q))
+    (u-step : (a b : ℕ) (p q r : Place) (x : Ascent) → above n t p ≡ On r → K a b r q x → K (suc a) b p q (uLeaves p x))
+    (v-step : (a b : ℕ) (p q r : Place) (x : Ascent) → above n t q ≡ On r → K a b p r x → K a (suc b) p q (vLeaves q x)) where
+  look-all : (a b : ℕ) (p q : Place) (u v : Place → Ascent)
+      → ((r : Place) → above n t p ≡ On r → K a b p q (uLeaves p (u r)))
+      → ((r : Place) → above n t q ≡ On r → K a b p q (vLeaves q (v r)))
+      → K a b p q (look n t p q u v)
+  look-all a b p q u v on-u on-v = on (eqb (p .head) (q .head)) (leb (q .top) (p .top)) (above n t p) (above n t q) refl refl
+    where
+      on : (i j : Bool) (s z : Stood) → above n t p ≡ s → above n t q ≡ z
+          → K a b p q (elim i [
+            | true ↦ meets [] [] p q
+            | false ↦ elim j [ true ↦ ascent-by (λ r. uLeaves p (u r)) s | false ↦ ascent-by (λ r. vLeaves q (v r)) z ]
+          ])
+      on true j s z e f = met a b p q
+      on false true (On r) z e f = on-u r e
+      on false true Unsound z e f = stray a b p q
+      on false false s (On r) e f = on-v r f
+      on false false s Unsound e f = stray a b p q
+
+  pub ascending-all : (a b : ℕ) (p q : Place) → K a b p q (ascending a b n t p q)
+  unfolding ascending
+  ascending-all zero zero p q = look-all 0 0 p q (λ r. strays) (λ r. strays) (λ r e. stray 0 0 p q) (λ r e. stray 0 0 p q)
+  ascending-all zero (suc b) p q =
+      look-all 0 (suc b) p q (λ r. strays) (λ r. ascending 0 b n t p r) (λ r e. stray 0 (suc b) p q)
+      (λ r e. v-step 0 b p q r (ascending 0 b n t p r) e (ascending-all 0 b p r))
+  ascending-all (suc a) zero p q =
+      look-all (suc a) 0 p q (λ r. ascending a 0 n t r q) (λ r. strays)
+      (λ r e. u-step a 0 p q r (ascending a 0 n t r q) e (ascending-all a 0 r q)) (λ r e. stray (suc a) 0 p q)
+  ascending-all (suc a) (suc b) p q =
+      look-all (suc a) (suc b) p q (λ r. ascending a (suc b) n t r q) (λ r. ascending (suc a) b n t p r)
+      (λ r e. u-step a (suc b) p q r (ascending a (suc b) n t r q) e (ascending-all a (suc b) r q))
+      (λ r e. v-step (suc a) b p q r (ascending (suc a) b n t p r) e (ascending-all (suc a) b p r))
 
 -- no climb goes on
 by-none : (s : Stood) → ascent-by (λ r. strays) s ≡ strays

@@ -5,7 +5,7 @@ use native.Mathlib.Decide.{decLe, ℕ-discrete}
 use mathlib.Core.Path.{_≡_, refl, sym, _∙_}
 use mathlib.Core.Logic.{inl, inr, _≢_}
 use mathlib.Core.List.{List, _∷_}
-use borrow.Author.Tests.{lt-ltb, le-leb, lt-leb, eq-eqb, ne-eqb}
+use borrow.Author.Tests.{lt-ltb, le-leb, lt-leb}
 use Rattle.paths.proofs.Listed.{in-left, in-right}
 use Rattle.paths.proofs.Steps.{on-last}
 use Rattle.paths.proofs.Top.{top-comm}
@@ -15,36 +15,17 @@ use Rattle.numbering.proofs.Climbs.{same-head-top}
 use Rattle.numbering.proofs.Leaves.{deeper-head-pos, chain-leave, chain-leave-top, chain-arrive, chain-arrive-top}
 use Rattle.tables.specs.Tables.{Six}
 use Rattle.climb.specs.Sound.{parentIn, depthIn, headIn, placeOf, On}
-use Rattle.climb.specs.Climbing.{leaveChain, uMoved, vMoved, climbing, climbTo, ancestorOf}
-use Rattle.climb.specs.declared.places.Place.{Place}
+use Rattle.climb.specs.Climbing.{climbTo, ancestorOf}
 use Rattle.climb.specs.declared.places.Climb.{Climb}
 use Rattle.climb.specs.declared.places.Climbed.the-variants.{Met}
+use Rattle.climb.proofs.Climbs.{leaveChain, climbFrom, climb-met, climb-by-u, climb-by-v, climb-from}
 use Rattle.pathlaws.specs.Given.{Given, OnIn, pathIn, topIn, lightsIn}
 use Rattle.pathlaws.specs.Meeting.{Meeting}
 use Rattle.pathlaws.proofs.Standing.{up-below, up-parent, stand-vertex}
 
 -- a climb whose ends stand on x and y, after leaving a and b chains
-abbrev stage : Six → (x y a b : ℕ) → Climb
+abbrev pub stage : Six → (x y a b : ℕ) → Climb
 stage t x y a b = record { u = placeOf t x; v = placeOf t y; «u_count» = a; «v_count» = b }
-
--- a climb with both ends on one chain is over
-climbing-met : (k n : ℕ) (t : Six) (c : Climb) → c .u .head ≡ c .v .head → climbing (suc k) n t c ≡ Met c
-unfolding climbing
-climbing-met k n t c e = rw (eq-eqb (c .u .head) (c .v .head) e, climbing)
-
--- otherwise the first side moves, if its head is no less deep
-climbing-u :
-    (k n : ℕ) (t : Six) (c : Climb) (p : Place) → c .u .head ≢ c .v .head → c .v .top ≤ c .u .top → leaveChain n t (c .u) (c .«u_count») ≡ On p
-    → climbing (suc k) n t c ≡ climbing k n t (uMoved c p)
-unfolding climbing
-climbing-u k n t c p d h e = rw (ne-eqb (c .u .head) (c .v .head) d, climbing, le-leb (c .v .top) (c .u .top) h, e)
-
--- and else the second
-climbing-v :
-    (k n : ℕ) (t : Six) (c : Climb) (p : Place) → c .u .head ≢ c .v .head → c .u .top < c .v .top → leaveChain n t (c .v) (c .«v_count») ≡ On p
-    → climbing (suc k) n t c ≡ climbing k n t (vMoved c p)
-unfolding climbing
-climbing-v k n t c p d h e = rw (ne-eqb (c .u .head) (c .v .head) d, climbing, lt-leb (c .v .top) (c .u .top) h, e)
 
 -- what meets on a part of a path, with the same deepest common ancestor, meets on the path
 meeting-from :
@@ -66,7 +47,7 @@ meeting-from w z c on e m =
 
 module _ {n root : ℕ} {A : ℕ → List ℕ} {t : Six} {kids : ℕ → List ℕ} (G : Given n A root t kids) where
   -- a side leaves its chain for the parent of the head, if it may leave one more
-  leaves : (a : ℕ) {x : ℕ} → x < n → 0 < depthIn t (headIn t x) → a < log2 n → leaveChain n t (placeOf t x) a ≡ On (placeOf t (parentIn t (headIn t x)))
+  pub leaves : (a : ℕ) {x : ℕ} → x < n → 0 < depthIn t (headIn t x) → a < log2 n → leaveChain n t (placeOf t x) a ≡ On (placeOf t (parentIn t (headIn t x)))
   leaves a hx p h = rw (up-parent G hx p, lt-ltb a (log2 n) h, stand-vertex G (up-below G hx p))
 
   -- of two ends on one chain the shallower is the deepest common ancestor
@@ -101,7 +82,7 @@ module _ {n root : ℕ} {A : ℕ → List ℕ} {t : Six} {kids : ℕ → List �
       (in-left w (x ∷ pathIn t x (parentIn t (headIn t y))) (headIn t y ∷ pathIn t (headIn t y) y) i))
       (chain-arrive-top (G .tables .numbering) hx hy d h)
 
-  -- from any two vertices the climb meets, with more looks than there are chains to leave
+  -- from any two vertices the climb meets, with fewer than k chains to leave
   climbs :
       (k x y a b : ℕ)
       → x < n
@@ -109,12 +90,12 @@ module _ {n root : ℕ} {A : ℕ → List ℕ} {t : Six} {kids : ℕ → List �
       → a + lightsIn t x ≤ log2 n
       → b + lightsIn t y ≤ log2 n
       → lightsIn t x + lightsIn t y < k
-      → (c : Climb) × (climbing k n t (stage t x y a b) ≡ Met c) × Meeting n t x y c
+      → (c : Climb) × (climbFrom n t (stage t x y a b) ≡ Met c) × Meeting n t x y c
   climbs zero x y a b hx hy i j h = absurd (omega arith)
   climbs (suc k) x y a b hx hy i j h = elim (ℕ-discrete (headIn t x) (headIn t y)) [
     | yes e ↦ (
       stage t x y a b,
-      climbing-met k n t (stage t x y a b) e,
+      climb-met n t (stage t x y a b) e,
       record {
         u-end = x;
         v-end = y;
@@ -134,7 +115,7 @@ module _ {n root : ℕ} {A : ℕ → List ℕ} {t : Six} {kids : ℕ → List �
           let l = lights-one (G .tables .numbering) hx p in
           let r = climbs k (parentIn t (headIn t x)) y (a + 1) b (up-below G hx p) hy (omega arith) j (omega arith) in (
             r .0,
-            climbing-u k n t (stage t x y a b) (placeOf t (parentIn t (headIn t x))) d q (leaves a hx p (omega arith)) ∙ r .1,
+            climb-by-u n t (stage t x y a b) d q ∙ rw (leaves a hx p (omega arith)) (r .1),
             meet-u (r .0) hx hy d q (r .2),
           )
       | no q ↦
@@ -144,7 +125,7 @@ module _ {n root : ℕ} {A : ℕ → List ℕ} {t : Six} {kids : ℕ → List �
           let l = lights-one (G .tables .numbering) hy p in
           let r = climbs k x (parentIn t (headIn t y)) a (b + 1) hx (up-below G hy p) i (omega arith) (omega arith) in (
             r .0,
-            climbing-v k n t (stage t x y a b) (placeOf t (parentIn t (headIn t y))) d (omega arith) (leaves b hy p (omega arith)) ∙ r .1,
+            climb-by-v n t (stage t x y a b) d (omega arith) ∙ rw (leaves b hy p (omega arith)) (r .1),
             meet-v (r .0) hx hy d s (r .2),
           )
     ]
@@ -152,9 +133,8 @@ module _ {n root : ℕ} {A : ℕ → List ℕ} {t : Six} {kids : ℕ → List �
 
   -- the climb from any two vertices meets
   pub climb-meets : {u v : ℕ} → u < n → v < n → (c : Climb) × (climbTo n t u v ≡ Met c) × Meeting n t u v c
-  unfolding climbTo
   climb-meets {u} {v} hu hv =
       let i = lights-log (G .tables .numbering) hu in
       let j = lights-log (G .tables .numbering) hv in
       let r = climbs (2 * log2 n + 1) u v 0 0 hu hv (omega arith) (omega arith) (omega arith) in
-      (r .0, rw (climbTo, stand-vertex G hu, stand-vertex G hv) (r .1), r .2)
+      (r .0, climb-from n t u v (stand-vertex G hu) (stand-vertex G hv) ∙ r .1, r .2)

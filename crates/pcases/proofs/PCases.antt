@@ -8,9 +8,9 @@ use Rattle.answers.specs.Limits.{maxVertices, maxTargets, noParent}
 use Rattle.graph.specs.Lent.{listOf}
 use Rattle.numbering.specs.Log.{halvings, log2}
 use Rattle.climb.specs.Sound.{sound?}
-use Rattle.climb.specs.Climbing.{climbing, climbTo}
+use Rattle.climb.specs.Climbing.{ascending, ascent, climbTo}
 use Rattle.queries.specs.Queries.{ancestorFrom}
-use Rattle.ranges.specs.Ranges.{ranging, pathRanges}
+use Rattle.ranges.specs.Ranges.{pathRanges}
 use Rattle.pcases.specs.Checks.{every}
 use Rattle.pcases.specs.Cases.{Case, refused, numbered, answered, ranged, decomposed, Means, Each}
 use Rattle.pcases.specs.GraphChecks.{verdicts, firstCode}
@@ -37,7 +37,7 @@ holds-means (decomposed g parent depth up level) e =
 -- every case of the table passes its test
 pub p-cases : every holds table ≡ true
 unfolding
-    route ptail maxVertices maxTargets noParent listOf halvings log2 sound? climbing climbTo ancestorFrom ranging pathRanges
+    route ptail maxVertices maxTargets noParent listOf halvings log2 sound? ascending ascent climbTo ancestorFrom pathRanges
     T S one pathOfFour oneWay table
 p-cases = refl
 

@@ -36,7 +36,7 @@ last-one Edges p = elim (decLt (p .from + 1) (p .to)) [
 last-one Both p = omega arith
 
 -- the ranges of a climb are at most one more than both sides' chains
-found-few : (kind : Kind) (n : ℕ) (D : List ℕ) (x : Climbed) (f : Found) → Agree kind n D 0 x f
+found-few : (kind : Kind) (n : ℕ) (D : List ℕ) (x : Climbed) (f : Found) → Agree kind n D x f
     → (l : List PathRange) → f ≡ found l → length l ≤ 2 * log2 n + 1
 found-few kind n D Lost f a l e =
     let z : lost ≡ found l = sym a ∙ e in
@@ -46,7 +46,7 @@ found-few kind n D (Met d) f a l e =
     let z : found (a .list) ≡ found l = sym (a .same) ∙ e in
     let m : a .list ≡ l = cc in
     let k = ap length m in
-    omega (arith, a .counted, a .u-few, a .v-few, last-one kind (lastPiece d), k)
+    omega (arith, a .counted, a .u-few, a .v-few, last-one kind (lastPiece (d .u) (d .v)), k)
 
 module _ (kind : Kind) (t : Six) (u v : ℕ) where
   -- the climb's ranges are few

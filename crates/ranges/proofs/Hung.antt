@@ -10,12 +10,12 @@ use Rattle.tables.specs.Tables.{Six}
 use Rattle.answers.specs.Choice.{pick}
 use Rattle.climb.specs.Asked.{sizeOf}
 use Rattle.climb.specs.Sound.{On, Unsound, standOn}
-use Rattle.climb.specs.Climbing.{leaveChain}
 use Rattle.climb.specs.Inner.{hangsFrom?, hangs?, ReachedOn, Seat, Left}
 use Rattle.climb.specs.declared.places.Place.{Place}
 use Rattle.climb.specs.declared.places.Reached.{Reached}
 use Rattle.answers.proofs.Choices.{pick-true, pick-false, both-true}
 use Rattle.climb.proofs.Soundness.{hangs-from}
+use Rattle.climb.proofs.Climbs.{leaveChain}
 use Rattle.climb.proofs.Reaching.{reached-vertex, reached-seat, seat-stand, left-stand}
 
 -- what was reached, and whether a head hangs, at all six tables

@@ -21,10 +21,10 @@ use Rattle.ranges.specs.declared.kinds.Kind.{Kind}
 use Rattle.answers.specs.declared.answer.Listed.the-variants.{Count, Refused}
 use Rattle.ranges.specs.declared.chains.Last.{Last}
 use Rattle.ranges.specs.declared.chains.Last.the-variants.{One, Empty}
-use Rattle.ranges.specs.Ranges.{found, lastChain, pathRanges}
+use Rattle.ranges.specs.Ranges.{found, pathRanges}
 use Rattle.ranges.specs.Flat.{stride, flat}
 use Rattle.ranges.specs.Calls.{Answered, refused, listed, fromFound, rangesOf}
-use Rattle.ranges.specs.Inner.{ListedAs, Ends, lastList, Climbs, Known}
+use Rattle.ranges.specs.Inner.{ListedAs, Ends, lastChain, lastList, Climbs, Known}
 use Rattle.ranges.proofs.Bounds.{log2-bounded}
 use Rattle.ranges.proofs.Looks.{Agree, Counted, agree}
 
@@ -52,8 +52,8 @@ last-few Empty = omega arith
 
 -- The first climb: its ranges are as many as it counts.
 module _ (kind : Kind) (t : Six) (u v : ℕ) (d : Climb) (met : climbTo (sizeOf t) t u v ≡ Met d) where
-  counted : Counted kind (sizeOf t) (t .depth) 0 d (pathRanges kind (sizeOf t) t u v)
-  counted = subst (λ (x : Climbed). Agree kind (sizeOf t) (t .depth) 0 x (pathRanges kind (sizeOf t) t u v)) met (agree kind (sizeOf t) t u v)
+  counted : Counted kind (sizeOf t) (t .depth) d (pathRanges kind (sizeOf t) t u v)
+  counted = subst (λ (x : Climbed). Agree kind (sizeOf t) (t .depth) x (pathRanges kind (sizeOf t) t u v)) met (agree kind (sizeOf t) t u v)
 
   pub met-known : (k : ℕ) → k ≡ length (lastChain kind d) → Known kind (sizeOf t) t u v (d .«u_count» + d .«v_count» + k)
   met-known k e = record { ranges = counted .list; same = counted .same; counted = omega (arith, counted .counted) }
@@ -101,7 +101,7 @@ module _ (kind : Kind) (t : Six) (u v : ℕ) where
     -- the climb is lost
     pub ranges-lost : (w : List ℕ) → climbTo (sizeOf t) t u v ≡ Lost → ListedAs (rangesOf kind t u v) w w (Refused BadTable)
     ranges-lost w e =
-        let f = subst (λ (x : Climbed). Agree kind (sizeOf t) (t .depth) 0 x (pathRanges kind (sizeOf t) t u v)) e (agree kind (sizeOf t) t u v) in
+        let f = subst (λ (x : Climbed). Agree kind (sizeOf t) (t .depth) x (pathRanges kind (sizeOf t) t u v)) e (agree kind (sizeOf t) t u v) in
         listed-refused (rangesOf kind t u v) w (sym (ap fromFound f) ∙ ready-ranges)
 
     -- the climb is met at d, whose last chain has k ranges

@@ -14,8 +14,8 @@ use Rattle.ranges.specs.declared.kinds.PathRange.{PathRange}
 use Rattle.ranges.specs.declared.kinds.Piece.{Piece}
 use Rattle.ranges.specs.declared.kinds.Kind.{Kind}
 use Rattle.ranges.specs.declared.kinds.Kind.the-variants.{Vertices, Edges, Both}
-use Rattle.ranges.specs.Ranges.{lastPiece, chainRange, lastRange, lastChain}
-use Rattle.ranges.specs.Inner.{Numbers, Ends, Small}
+use Rattle.ranges.specs.Ranges.{lastPiece, chainRange, lastRange}
+use Rattle.ranges.specs.Inner.{Numbers, Ends, lastChain, Small}
 
 pub chain-small : (kind : Kind) (p : Piece) → Numbers p → Small (chainRange kind p)
 chain-small Vertices p h = let s = vertices-small in record { start = omega arith; end = omega arith }
@@ -35,7 +35,7 @@ last-small Edges p h e = let s = vertices-small in picked (ltb (p .from + 1) (p 
 last-small Both p h e = let s = vertices-small in only e (record { start = omega arith; end = omega arith })
 
 -- the piece of the last chain has a number
-pub last-numbers : (c : Climb) → Ends c → Numbers (lastPiece c)
+pub last-numbers : (c : Climb) → Ends c → Numbers (lastPiece (c .u) (c .v))
 last-numbers c h = elim (decLt (c .v .id) (c .u .id)) [
   | yes l ↦ rw (lt-ltb (c .v .id) (c .u .id) l) (record { some = omega arith; small = omega (arith, h .u) })
   | no l ↦ rw (le-ltb (c .v .id) (c .u .id) (omega arith)) (record { some = omega arith; small = omega (arith, h .v) })
@@ -43,4 +43,4 @@ last-numbers c h = elim (decLt (c .v .id) (c .u .id)) [
 
 -- the range of the last chain
 pub last-chain-small : (kind : Kind) (c : Climb) → Ends c → {x : PathRange} → lastChain kind c ≡ x ∷ [] → Small x
-last-chain-small kind c h e = last-small kind (lastPiece c) (last-numbers c h) e
+last-chain-small kind c h e = last-small kind (lastPiece (c .u) (c .v)) (last-numbers c h) e

@@ -11,25 +11,26 @@ use Rattle.numbering.specs.Log.{log2}
 use Rattle.tables.specs.Tables.{Six}
 use Rattle.climb.specs.Asked.{sizeOf}
 use Rattle.climb.specs.Sound.{On, Unsound, standOn}
-use Rattle.climb.specs.Climbing.{leaveChain, climbStart, uMoved, vMoved}
+use Rattle.climb.specs.Inner.{climbStart, uMoved, vMoved}
 use Rattle.climb.specs.declared.places.Climb.{Climb}
 use Rattle.climb.specs.declared.places.Reached.{Reached}
 use Rattle.climb.proofs.Soundness.{Seated}
 use Rattle.climb.proofs.Reaching.{reached-off, reached-vertex, seat-facts}
-use Rattle.climb.proofs.Going.{Going, chainsLeft, going-begins, going-u, going-v, u-fewer, v-fewer}
+use Rattle.climb.proofs.Climbs.{leaveChain}
+use Rattle.climb.proofs.Going.{Going, going-begins, going-u, going-v, u-fewer, v-fewer}
 use Rattle.climb.proofs.Handed.{climbs-from}
 use Rattle.ranges.specs.declared.kinds.PathRange.{PathRange}
 use Rattle.ranges.specs.declared.kinds.Piece.{Piece}
 use Rattle.ranges.specs.declared.kinds.Kind.{Kind}
 use Rattle.ranges.specs.declared.chains.Last.{Last}
-use Rattle.ranges.specs.Ranges.{Found, lost, found, inFront, behind, uPiece, vPiece, chainRange, lastChain, ranging, pathRanges}
+use Rattle.ranges.specs.Ranges.{Found, lost, found, uPiece, vPiece, chainRange, pathRanges}
 use Rattle.ranges.specs.Flat.{stride, flat}
-use Rattle.ranges.specs.Inner.{Chain, Ends, lastList, written, Small, Slot, LastSlot, Climbs, Known}
+use Rattle.ranges.specs.Inner.{Chain, Ends, lastChain, lastList, written, Small, Slot, LastSlot, Climbs, Known}
 use Rattle.ranges.proofs.Bounds.{climbs-small}
 use Rattle.ranges.proofs.Hung.{ReachedIn, LeftIn, hangsIn, reached-unhung, reached-hung, left-number, left-off, left-unhung, left-hung}
 use Rattle.ranges.proofs.Numbered.{chain-small, last-chain-small}
 use Rattle.ranges.proofs.Slots.{written-length, written-front, written-back, written-all}
-use Rattle.ranges.proofs.Looks.{uRange, vRange, range-met, range-u, range-u-lost, range-v, range-v-lost, range-from, range-off-u, range-off-v}
+use Rattle.ranges.proofs.Looks.{uRange, vRange, inFront, behind, ranging, range-met, range-u, range-u-lost, range-v, range-v-lost, range-from, range-off-u, range-off-v}
 
 -- Ranges that were found.
 
@@ -71,7 +72,7 @@ module _ (kind : Kind) (t : Six) (u v count : ℕ) (known : Known kind (sizeOf t
 
     module _ {b : Reached} (at-v : ReachedIn t v b) where
       off-v : standOn (sizeOf t) t v ≡ Unsound → ⊥
-      off-v e = found-lost (sym (range-off-v kind (sizeOf t) t u v stood-u e) ∙ known .same)
+      off-v e = found-lost (sym (range-off-v kind (sizeOf t) t u v e) ∙ known .same)
 
       pub stands-v : b .sound ≡ false → ⊥
       stands-v e = off-v (reached-off (t .parent) (t .depth) (t .head) (t .id) at-v e (t .order) (t .size))
@@ -91,7 +92,7 @@ module _ (kind : Kind) (t : Six) (u v count : ℕ) (lent : List ℕ) where
     pub u-hung : hangsIn t (c .u) ≡ true
     pub v-hung : hangsIn t (c .v) ≡ true
     pub rest : List PathRange
-    pub left : ranging (suc (chainsLeft (log2 (sizeOf t)) c)) kind (sizeOf t) t c ≡ found rest
+    pub left : ranging kind (sizeOf t) t c ≡ found rest
     pub fill : c .«u_count» + length rest + c .«v_count» ≡ count
     pub long : length w ≡ length lent
     pub whole : (l : List PathRange) → pathRanges kind (sizeOf t) t u v ≡ found l → written w (c .«u_count») rest ≡ written lent 0 l
@@ -109,7 +110,6 @@ module _ (kind : Kind) (t : Six) (u v count : ℕ) (lent : List ℕ) where
 
     begin : Writing (climbStart (a .place) (b .place)) lent
     begin =
-        let e : suc (2 * (log2 (sizeOf t)) - (0 + 0)) ≡ 2 * log2 (sizeOf t) + 1 = omega arith in
         let on = stood-u kind t u v count known at-u on-u in
         let on′ = stood-v kind t u v count known at-u on-u at-v on-v in
         record {
@@ -117,9 +117,7 @@ module _ (kind : Kind) (t : Six) (u v count : ℕ) (lent : List ℕ) where
           u-hung = hangs-u kind t u v count known at-u on-u;
           v-hung = hangs-v kind t u v count known at-u on-u at-v on-v;
           rest = known .ranges;
-          left =
-              ap (λ (k : ℕ). ranging k kind (sizeOf t) t (climbStart (a .place) (b .place))) e
-              ∙ (sym (range-from kind (sizeOf t) t u v on on′) ∙ known .same);
+          left = sym (range-from kind (sizeOf t) t u v on on′) ∙ known .same;
           fill = omega (arith, known .counted);
           long = refl;
           whole = λ l f. let z : known .ranges ≡ l = cc in ap (written lent 0) z;
@@ -138,7 +136,7 @@ module _ (kind : Kind) (t : Six) (u v count : ℕ) (lent : List ℕ) where
     module _ (apart : c .u .head ≡ c .v .head → ⊥) where
       module _ (h : c .v .top ≤ c .u .top) {r : Reached} (l : LeftIn t (c .u) (c .«u_count») r) where
         u-unsound : leaveChain (sizeOf t) t (c .u) (c .«u_count») ≡ Unsound → ⊥
-        u-unsound e = found-lost (sym (range-u-lost kind (chainsLeft (log2 (sizeOf t)) c) (sizeOf t) t c apart h e) ∙ g .left)
+        u-unsound e = found-lost (sym (range-u-lost kind (sizeOf t) t c apart h e) ∙ g .left)
 
         pub u-never : r .sound ≡ false → ⊥
         u-never e = u-unsound (left-off t (c .u) (c .«u_count») l (g .going .small) (g .going .u-seat) (g .u-hung) e)
@@ -152,10 +150,10 @@ module _ (kind : Kind) (t : Six) (u v count : ℕ) (lent : List ℕ) where
           u-left : leaveChain (sizeOf t) t (c .u) (c .«u_count») ≡ On (r .place)
           u-left = left-hung t (c .u) (c .«u_count») l (g .going .small) (g .going .u-seat) (g .u-hung) on u-hangs
 
-          u-rest : (m : List PathRange) × (ranging (chainsLeft (log2 (sizeOf t)) c) kind (sizeOf t) t (uMoved c (r .place)) ≡ found m) × (g .rest ≡ uRange kind c ∷ m)
+          u-rest : (m : List PathRange) × (ranging kind (sizeOf t) t (uMoved c (r .place)) ≡ found m) × (g .rest ≡ uRange kind (c .u) ∷ m)
           u-rest =
-              front-found (uRange kind c) (ranging (chainsLeft (log2 (sizeOf t)) c) kind (sizeOf t) t (uMoved c (r .place)))
-              (sym (range-u kind (chainsLeft (log2 (sizeOf t)) c) (sizeOf t) t c apart h u-left) ∙ g .left)
+              front-found (uRange kind (c .u)) (ranging kind (sizeOf t) t (uMoved c (r .place)))
+              (sym (range-u kind (sizeOf t) t c apart h u-left) ∙ g .left)
 
           u-few : c .«u_count» < (log2 (sizeOf t))
           u-few = u-fewer (t .parent) (t .depth) (t .head) (t .id) (log2 (sizeOf t)) u v c (g .going) apart h l on
@@ -163,44 +161,43 @@ module _ (kind : Kind) (t : Six) (u v count : ℕ) (lent : List ℕ) where
           u-room : c .«u_count» + 1 + c .«v_count» ≤ count
           u-room = let e = ap length (u-rest .2) in omega (arith, g .fill)
 
-          pub u-chain : sizeOf t ≤ maxVertices → Chain (uPiece c)
+          pub u-chain : sizeOf t ≤ maxVertices → Chain (uPiece (c .u))
           u-chain small =
               record {
                 above = left-number t (c .u) (c .«u_count») l on;
                 numbers = record { some = omega (arith, u-facts .first-low); small = omega (arith, u-facts .id-below) };
               }
 
-          pub u-slot : sizeOf t ≤ maxVertices → stride * count ≤ length lent → {x : PathRange} → x ≡ uRange kind c → Slot w (c .«u_count») x
+          pub u-slot : sizeOf t ≤ maxVertices → stride * count ≤ length lent → {x : PathRange} → x ≡ uRange kind (c .u) → Slot w (c .«u_count») x
           u-slot small room e =
-              chain-slot kind (uPiece c) w (c .«u_count») e (u-chain small) (omega (arith, u-room, g .long))
+              chain-slot kind (uPiece (c .u)) w (c .«u_count») e (u-chain small) (omega (arith, u-room, g .long))
 
-          u-next : Writing (uMoved c (r .place)) (written w (c .«u_count») (uRange kind c ∷ []))
+          u-next : Writing (uMoved c (r .place)) (written w (c .«u_count») (uRange kind (c .u) ∷ []))
           u-next =
               let few = u-few in
               let e = ap length (u-rest .2) in
-              let k : suc (chainsLeft (log2 (sizeOf t)) (uMoved c (r .place))) ≡ chainsLeft (log2 (sizeOf t)) c = omega (arith, g .going .v-few) in
               record {
                 going = going-u (t .parent) (t .depth) (t .head) (t .id) (log2 (sizeOf t)) u v c (g .going) apart h l on refl;
                 u-hung = u-hangs;
                 v-hung = g .v-hung;
                 rest = u-rest .0;
-                left = ap (λ (i : ℕ). ranging i kind (sizeOf t) t (uMoved c (r .place))) k ∙ u-rest .1;
+                left = u-rest .1;
                 fill = omega (arith, g .fill);
-                long = written-length w (c .«u_count») (uRange kind c ∷ []) ∙ g .long;
+                long = written-length w (c .«u_count») (uRange kind (c .u) ∷ []) ∙ g .long;
                 whole = λ m f.
-                    sym (written-front w (c .«u_count») (uRange kind c) (u-rest .0))
+                    sym (written-front w (c .«u_count») (uRange kind (c .u)) (u-rest .0))
                     ∙ (ap (written w (c .«u_count»)) (sym (u-rest .2)) ∙ g .whole m f);
               }
 
           pub writing-u : {d : Climb} {x : PathRange} {w′ : List ℕ}
-              → d ≡ uMoved c (r .place) → x ≡ uRange kind c → w′ ≡ written w (c .«u_count») (x ∷ []) → Writing d w′
+              → d ≡ uMoved c (r .place) → x ≡ uRange kind (c .u) → w′ ≡ written w (c .«u_count») (x ∷ []) → Writing d w′
           writing-u {d} {x} {w′} e f i =
-              let j : w′ ≡ written w (c .«u_count») (uRange kind c ∷ []) = i ∙ ap (λ (y : PathRange). written w (c .«u_count») (y ∷ [])) f in
+              let j : w′ ≡ written w (c .«u_count») (uRange kind (c .u) ∷ []) = i ∙ ap (λ (y : PathRange). written w (c .«u_count») (y ∷ [])) f in
               subst (λ (z : Climb). Writing z w′) (sym e) (subst (Writing (uMoved c (r .place))) (sym j) u-next)
 
       module _ (h : c .u .top < c .v .top) {r : Reached} (l : LeftIn t (c .v) (c .«v_count») r) where
         v-unsound : leaveChain (sizeOf t) t (c .v) (c .«v_count») ≡ Unsound → ⊥
-        v-unsound e = found-lost (sym (range-v-lost kind (chainsLeft (log2 (sizeOf t)) c) (sizeOf t) t c apart h e) ∙ g .left)
+        v-unsound e = found-lost (sym (range-v-lost kind (sizeOf t) t c apart h e) ∙ g .left)
 
         pub v-never : r .sound ≡ false → ⊥
         v-never e = v-unsound (left-off t (c .v) (c .«v_count») l (g .going .small) (g .going .v-seat) (g .v-hung) e)
@@ -214,56 +211,55 @@ module _ (kind : Kind) (t : Six) (u v count : ℕ) (lent : List ℕ) where
           v-left : leaveChain (sizeOf t) t (c .v) (c .«v_count») ≡ On (r .place)
           v-left = left-hung t (c .v) (c .«v_count») l (g .going .small) (g .going .v-seat) (g .v-hung) on v-hangs
 
-          v-rest : (m : List PathRange) × (ranging (chainsLeft (log2 (sizeOf t)) c) kind (sizeOf t) t (vMoved c (r .place)) ≡ found m) × (g .rest ≡ m ++ (vRange kind c ∷ []))
+          v-rest : (m : List PathRange) × (ranging kind (sizeOf t) t (vMoved c (r .place)) ≡ found m) × (g .rest ≡ m ++ (vRange kind (c .v) ∷ []))
           v-rest =
-              behind-found (vRange kind c) (ranging (chainsLeft (log2 (sizeOf t)) c) kind (sizeOf t) t (vMoved c (r .place)))
-              (sym (range-v kind (chainsLeft (log2 (sizeOf t)) c) (sizeOf t) t c apart h v-left) ∙ g .left)
+              behind-found (vRange kind (c .v)) (ranging kind (sizeOf t) t (vMoved c (r .place)))
+              (sym (range-v kind (sizeOf t) t c apart h v-left) ∙ g .left)
 
           v-few : c .«v_count» < (log2 (sizeOf t))
           v-few = v-fewer (t .parent) (t .depth) (t .head) (t .id) (log2 (sizeOf t)) u v c (g .going) apart h l on
 
           v-length : length (g .rest) ≡ length (v-rest .0) + 1
-          v-length = let e = ap length (v-rest .2) in omega (arith, length-append (v-rest .0) (vRange kind c ∷ []))
+          v-length = let e = ap length (v-rest .2) in omega (arith, length-append (v-rest .0) (vRange kind (c .v) ∷ []))
 
           pub v-room : c .«u_count» + 1 + c .«v_count» ≤ count
           v-room = let e = v-length in omega (arith, g .fill)
 
-          pub v-chain : sizeOf t ≤ maxVertices → Chain (vPiece c)
+          pub v-chain : sizeOf t ≤ maxVertices → Chain (vPiece (c .v))
           v-chain small =
               record {
                 above = left-number t (c .v) (c .«v_count») l on;
                 numbers = record { some = omega (arith, v-facts .first-low); small = omega (arith, v-facts .id-below) };
               }
 
-          pub v-slot : sizeOf t ≤ maxVertices → stride * count ≤ length lent → {x : PathRange} → x ≡ vRange kind c
+          pub v-slot : sizeOf t ≤ maxVertices → stride * count ≤ length lent → {x : PathRange} → x ≡ vRange kind (c .v)
               → Slot w (count - 1 - c .«v_count») x
           v-slot small room e =
-              chain-slot kind (vPiece c) w (count - 1 - c .«v_count») e (v-chain small) (omega (arith, v-room, g .long))
+              chain-slot kind (vPiece (c .v)) w (count - 1 - c .«v_count») e (v-chain small) (omega (arith, v-room, g .long))
 
-          v-next : Writing (vMoved c (r .place)) (written w (count - 1 - c .«v_count») (vRange kind c ∷ []))
+          v-next : Writing (vMoved c (r .place)) (written w (count - 1 - c .«v_count») (vRange kind (c .v) ∷ []))
           v-next =
               let few = v-few in
               let e = v-length in
-              let k : suc (chainsLeft (log2 (sizeOf t)) (vMoved c (r .place))) ≡ chainsLeft (log2 (sizeOf t)) c = omega (arith, g .going .u-few) in
               let s : count - 1 - c .«v_count» ≡ c .«u_count» + length (v-rest .0) = omega (arith, g .fill) in
               record {
                 going = going-v (t .parent) (t .depth) (t .head) (t .id) (log2 (sizeOf t)) u v c (g .going) apart h l on refl;
                 u-hung = g .u-hung;
                 v-hung = v-hangs;
                 rest = v-rest .0;
-                left = ap (λ (i : ℕ). ranging i kind (sizeOf t) t (vMoved c (r .place))) k ∙ v-rest .1;
+                left = v-rest .1;
                 fill = omega (arith, g .fill);
-                long = written-length w (count - 1 - c .«v_count») (vRange kind c ∷ []) ∙ g .long;
+                long = written-length w (count - 1 - c .«v_count») (vRange kind (c .v) ∷ []) ∙ g .long;
                 whole = λ m f.
-                    ap (λ (i : ℕ). written (written w i (vRange kind c ∷ [])) (c .«u_count») (v-rest .0)) s
-                    ∙ (sym (written-back w (c .«u_count») (v-rest .0) (vRange kind c))
+                    ap (λ (i : ℕ). written (written w i (vRange kind (c .v) ∷ [])) (c .«u_count») (v-rest .0)) s
+                    ∙ (sym (written-back w (c .«u_count») (v-rest .0) (vRange kind (c .v)))
                     ∙ (ap (written w (c .«u_count»)) (sym (v-rest .2)) ∙ g .whole m f));
               }
 
           pub writing-v : {d : Climb} {x : PathRange} {w′ : List ℕ}
-              → d ≡ vMoved c (r .place) → x ≡ vRange kind c → w′ ≡ written w (count - 1 - c .«v_count») (x ∷ []) → Writing d w′
+              → d ≡ vMoved c (r .place) → x ≡ vRange kind (c .v) → w′ ≡ written w (count - 1 - c .«v_count») (x ∷ []) → Writing d w′
           writing-v {d} {x} {w′} e f i =
-              let j : w′ ≡ written w (count - 1 - c .«v_count») (vRange kind c ∷ []) =
+              let j : w′ ≡ written w (count - 1 - c .«v_count») (vRange kind (c .v) ∷ []) =
               i ∙ ap (λ (y : PathRange). written w (count - 1 - c .«v_count») (y ∷ [])) f in
               subst (λ (z : Climb). Writing z w′) (sym e) (subst (Writing (vMoved c (r .place))) (sym j) v-next)
 
@@ -274,7 +270,7 @@ module _ (kind : Kind) (t : Six) (u v count : ℕ) (lent : List ℕ) where
     module _ (met : c .u .head ≡ c .v .head) (last : Last) (e : lastList last ≡ lastChain kind c) where
       last-rest : lastList last ≡ g .rest
       last-rest =
-          let f : found (lastChain kind c) ≡ found (g .rest) = sym (range-met kind (chainsLeft (log2 (sizeOf t)) c) (sizeOf t) t c met) ∙ g .left in
+          let f : found (lastChain kind c) ≡ found (g .rest) = sym (range-met kind (sizeOf t) t c met) ∙ g .left in
           cc
 
       pub last-slot : sizeOf t ≤ maxVertices → stride * count ≤ length lent → LastSlot w (c .«u_count») last

@@ -16,7 +16,7 @@ use Rattle.ranges.specs.declared.kinds.Kind.{Kind}
 use Rattle.answers.specs.declared.answer.Listed.{Listed}
 use Rattle.ranges.specs.declared.chains.Last.{Last}
 use Rattle.ranges.specs.declared.chains.Last.the-variants.{One, Empty}
-use Rattle.ranges.specs.Ranges.{found, pathRanges}
+use Rattle.ranges.specs.Ranges.{lastPiece, lastRange, found, pathRanges}
 use Rattle.ranges.specs.Flat.{stride, flat}
 use Rattle.ranges.specs.Calls.{Answered, roomAnswer, roomList}
 
@@ -39,6 +39,10 @@ pub record Chain (p : Piece) : Type 0 where
 pub record Ends (c : Climb) : Type 0 where
   pub u : c .u .id < maxVertices
   pub v : c .v .id < maxVertices
+
+-- the range of the last chain of a climb
+abbrev pub lastChain : Kind → Climb → List PathRange
+lastChain kind c = lastRange kind (lastPiece (c .u) (c .v))
 
 -- the ranges of the last chain as a list
 abbrev pub lastList : Last → List PathRange

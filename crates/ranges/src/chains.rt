@@ -6,8 +6,8 @@ use crate::kinds::Piece;
 use climb::places::Climb;
 ghost use mathlib.Core.Path.{_≡_};
 ghost use lib.ListN.{length};
-ghost use Rattle.ranges.specs.Ranges.{uPiece, vPiece, lastPiece, range, chainRange, lastRange, lastChain};
-ghost use Rattle.ranges.specs.Inner.{Numbers, Chain, Ends, lastList};
+ghost use Rattle.ranges.specs.Ranges.{uPiece, vPiece, lastPiece, range, chainRange, lastRange};
+ghost use Rattle.ranges.specs.Inner.{Numbers, Chain, Ends, lastChain, lastList};
 
 // The range of the last chain, or none where it would be empty.
 pub enum Last {
@@ -18,7 +18,7 @@ pub enum Last {
 // The piece of the chain that the u side leaves: from the chain's head up to where the side stands, read high to low.
 pub(crate) fn u_piece(climb: Climb) -> Piece
     requires { ⌜ Ends climb ⌝ }
-    ensures { λ piece. ⌜ piece ≡ uPiece climb ⌝ }
+    ensures { λ piece. ⌜ piece ≡ uPiece (climb .u) ⌝ }
 {
     Piece::new(climb.u.first, climb.u.id + 1, Direction::Reversed)
 }
@@ -26,7 +26,7 @@ pub(crate) fn u_piece(climb: Climb) -> Piece
 // The piece of the chain that the v side leaves, read low to high.
 pub(crate) fn v_piece(climb: Climb) -> Piece
     requires { ⌜ Ends climb ⌝ }
-    ensures { λ piece. ⌜ piece ≡ vPiece climb ⌝ }
+    ensures { λ piece. ⌜ piece ≡ vPiece (climb .v) ⌝ }
 {
     Piece::new(climb.v.first, climb.v.id + 1, Direction::Forward)
 }
@@ -34,7 +34,7 @@ pub(crate) fn v_piece(climb: Climb) -> Piece
 // The piece of the last chain of a climb: on the u side where u lies below v, else on the v side.
 pub(crate) fn last_piece(climb: Climb) -> Piece
     requires { ⌜ Ends climb ⌝ }
-    ensures { λ piece. ⌜ piece ≡ lastPiece climb ⌝ }
+    ensures { λ piece. ⌜ piece ≡ lastPiece (climb .u) (climb .v) ⌝ }
 {
     let u = climb.u.id;
     let v = climb.v.id;

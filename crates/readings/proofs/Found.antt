@@ -5,22 +5,22 @@ use native.Mathlib.Decide.{decLe, decLt, ℕ-discrete}
 use mathlib.Core.Path.{_≡_, sym, ap, subst, _∙_}
 use mathlib.Core.Logic.{_≢_}
 use mathlib.Core.List.{List, [], _∷_, _++_}
-use borrow.Author.Tests.{lt-ltb, le-ltb, le-leb, lt-leb, eq-eqb, ne-eqb}
+use borrow.Author.Tests.{lt-ltb, le-ltb}
 use Rattle.numbering.specs.Log.{log2}
 use Rattle.numbering.proofs.Bounds.{lights-one, lights-log}
 use Rattle.numbering.proofs.Climbs.{chain-gap}
 use Rattle.numbering.proofs.Leaves.{deeper-head-pos}
 use Rattle.tables.specs.Tables.{Six}
-use Rattle.climb.specs.Sound.{parentIn, depthIn, headIn, idIn, placeOf, On}
-use Rattle.climb.specs.Climbing.{leaveChain, uMoved, vMoved}
-use Rattle.climb.specs.declared.places.Place.{Place}
-use Rattle.climb.specs.declared.places.Climb.{Climb}
+use Rattle.climb.specs.Sound.{parentIn, depthIn, headIn, idIn}
 use Rattle.pathlaws.specs.Given.{Given, lightsIn}
-use Rattle.pathlaws.proofs.Standing.{up-below, up-parent, stand-vertex}
-use Rattle.ranges.specs.Ranges.{Found, lost, found, uPiece, vPiece, piece, chainRange, lastRange, lastChain, ranging, pathRanges}
+use Rattle.pathlaws.proofs.Standing.{up-below, stand-vertex}
+use Rattle.pathlaws.proofs.Meetings.{stage, leaves}
+use Rattle.ranges.specs.Ranges.{Found, lost, found, piece, chainRange, lastRange, pathRanges}
+use Rattle.ranges.specs.Inner.{lastChain}
 use Rattle.ranges.specs.declared.kinds.Direction.the-variants.{Forward, Reversed}
 use Rattle.ranges.specs.declared.kinds.PathRange.{PathRange}
 use Rattle.ranges.specs.declared.kinds.Kind.{Kind}
+use Rattle.ranges.proofs.Looks.{inFront, behind, ranging, range-met, range-u, range-v, range-from}
 
 -- P holds of the ranges of two vertices of one chain, and stays when the range of a chain is set in front or behind as the climb does
 pub record Kept (n : ℕ) (t : Six) (kind : Kind) (P : (u v : ℕ) → List PathRange → Type 0) : Type 0 where
@@ -35,37 +35,6 @@ pub record Kept (n : ℕ) (t : Six) (kind : Kind) (P : (u v : ℕ) → List Path
       {x y : ℕ} (l : List PathRange) → x < n → y < n → headIn t x ≢ headIn t y → depthIn t (headIn t x) ≤ depthIn t (headIn t y)
       → P x (parentIn t (headIn t y)) l → P x y (l ++ (chainRange kind (piece (idIn t (headIn t y)) (idIn t y + 1) Forward) ∷ []))
 
--- a climb whose ends stand on x and y, after leaving a and b chains
-abbrev stage : Six → (x y a b : ℕ) → Climb
-stage t x y a b = record { u = placeOf t x; v = placeOf t y; «u_count» = a; «v_count» = b }
-
--- with both ends on one chain the last range is found
-ranging-last : (k n : ℕ) (kind : Kind) (t : Six) (c : Climb) → c .u .head ≡ c .v .head → ranging (suc k) kind n t c ≡ found (lastChain kind c)
-unfolding ranging
-ranging-last k n kind t c e = rw (eq-eqb (c .u .head) (c .v .head) e, ranging)
-
--- otherwise the range of the first side's chain comes in front, if its head is no less deep
-ranging-u :
-    (k n : ℕ) (kind : Kind) (t : Six) (c : Climb) (p : Place) (l : List PathRange)
-    → c .u .head ≢ c .v .head
-    → c .v .top ≤ c .u .top
-    → leaveChain n t (c .u) (c .«u_count») ≡ On p
-    → ranging k kind n t (uMoved c p) ≡ found l
-    → ranging (suc k) kind n t c ≡ found (chainRange kind (uPiece c) ∷ l)
-unfolding ranging
-ranging-u k n kind t c p l d h e r = rw (ne-eqb (c .u .head) (c .v .head) d, ranging, le-leb (c .v .top) (c .u .top) h, e, r)
-
--- and else that of the second side's chain behind
-ranging-v :
-    (k n : ℕ) (kind : Kind) (t : Six) (c : Climb) (p : Place) (l : List PathRange)
-    → c .u .head ≢ c .v .head
-    → c .u .top < c .v .top
-    → leaveChain n t (c .v) (c .«v_count») ≡ On p
-    → ranging k kind n t (vMoved c p) ≡ found l
-    → ranging (suc k) kind n t c ≡ found (l ++ (chainRange kind (vPiece c) ∷ []))
-unfolding ranging
-ranging-v k n kind t c p l d h e r = rw (ne-eqb (c .u .head) (c .v .head) d, ranging, lt-leb (c .v .top) (c .u .top) h, e, r)
-
 -- the list that was found
 listed : Found → List PathRange
 listed lost = []
@@ -79,10 +48,6 @@ found-one e = ap listed e
 module _
     {n root : ℕ} {A : ℕ → List ℕ} {t : Six} {kids : ℕ → List ℕ} (G : Given n A root t kids) (kind : Kind)
     {P : (u v : ℕ) → List PathRange → Type 0} (K : Kept n t kind P) where
-  -- a side leaves its chain for the parent of the head, if it may leave one more
-  leaves : (a : ℕ) {x : ℕ} → x < n → 0 < depthIn t (headIn t x) → a < log2 n → leaveChain n t (placeOf t x) a ≡ On (placeOf t (parentIn t (headIn t x)))
-  leaves a hx p h = rw (up-parent G hx p, lt-ltb a (log2 n) h, stand-vertex G (up-below G hx p))
-
   -- P holds of the ranges of the last chain
   last-kept : (a b : ℕ) {x y : ℕ} → x < n → y < n → headIn t x ≡ headIn t y → P x y (lastChain kind (stage t x y a b))
   last-kept a b {x} {y} hx hy e =
@@ -92,7 +57,7 @@ module _
         | no q ↦ rw (le-ltb (idIn t y) (idIn t x) (omega arith)) (K .down hx hy e (omega arith))
       ]
 
-  -- from any two vertices ranges are found, with more looks than there are chains to leave, and P holds of them
+  -- from any two vertices ranges are found, with fewer than k chains to leave, and P holds of them
   ranges :
       (k x y a b : ℕ)
       → x < n
@@ -100,18 +65,18 @@ module _
       → a + lightsIn t x ≤ log2 n
       → b + lightsIn t y ≤ log2 n
       → lightsIn t x + lightsIn t y < k
-      → (l : List PathRange) × (ranging k kind n t (stage t x y a b) ≡ found l) × P x y l
+      → (l : List PathRange) × (ranging kind n t (stage t x y a b) ≡ found l) × P x y l
   ranges zero x y a b hx hy i j h = absurd (omega arith)
   ranges (suc k) x y a b hx hy i j h = elim (ℕ-discrete (headIn t x) (headIn t y)) [
-    | yes e ↦ (lastChain kind (stage t x y a b), ranging-last k n kind t (stage t x y a b) e, last-kept a b hx hy e)
+    | yes e ↦ (lastChain kind (stage t x y a b), range-met kind n t (stage t x y a b) e, last-kept a b hx hy e)
     | no d ↦ elim (decLe (depthIn t (headIn t y)) (depthIn t (headIn t x))) [
       | yes q ↦
           let p = deeper-head-pos (G .tables .numbering) hx hy d q in
           let s = lights-one (G .tables .numbering) hx p in
-          let up : ℕ = parentIn t (headIn t x) in
-          let r = ranges k up y (a + 1) b (up-below G hx p) hy (omega arith) j (omega arith) in (
-            chainRange kind (piece (idIn t (headIn t x)) (idIn t x + 1) Reversed) ∷ r .0,
-            ranging-u k n kind t (stage t x y a b) (placeOf t up) (r .0) d q (leaves a hx p (omega arith)) (r .1),
+          let new = chainRange kind (piece (idIn t (headIn t x)) (idIn t x + 1) Reversed) in
+          let r = ranges k (parentIn t (headIn t x)) y (a + 1) b (up-below G hx p) hy (omega arith) j (omega arith) in (
+            new ∷ r .0,
+            range-u kind n t (stage t x y a b) d q (leaves G a hx p (omega arith)) ∙ ap (inFront new) (r .1),
             K .left (r .0) hx hy d q (r .2),
           )
       | no q ↦
@@ -119,10 +84,10 @@ module _
           let g : depthIn t (headIn t x) ≤ depthIn t (headIn t y) = omega arith in
           let p = deeper-head-pos (G .tables .numbering) hy hx f g in
           let s = lights-one (G .tables .numbering) hy p in
-          let up : ℕ = parentIn t (headIn t y) in
-          let r = ranges k x up a (b + 1) hx (up-below G hy p) i (omega arith) (omega arith) in (
-            r .0 ++ (chainRange kind (piece (idIn t (headIn t y)) (idIn t y + 1) Forward) ∷ []),
-            ranging-v k n kind t (stage t x y a b) (placeOf t up) (r .0) d (omega arith) (leaves b hy p (omega arith)) (r .1),
+          let new = chainRange kind (piece (idIn t (headIn t y)) (idIn t y + 1) Forward) in
+          let r = ranges k x (parentIn t (headIn t y)) a (b + 1) hx (up-below G hy p) i (omega arith) (omega arith) in (
+            r .0 ++ (new ∷ []),
+            range-v kind n t (stage t x y a b) d (omega arith) (leaves G b hy p (omega arith)) ∙ ap (behind new) (r .1),
             K .entered (r .0) hx hy d g (r .2),
           )
     ]
@@ -130,12 +95,11 @@ module _
 
   -- ranges are found between any two vertices, and P holds of them
   found-kept : {u v : ℕ} → u < n → v < n → (l : List PathRange) × (pathRanges kind n t u v ≡ found l) × P u v l
-  unfolding pathRanges
   found-kept {u} {v} hu hv =
       let i = lights-log (G .tables .numbering) hu in
       let j = lights-log (G .tables .numbering) hv in
       let r = ranges (2 * log2 n + 1) u v 0 0 hu hv (omega arith) (omega arith) (omega arith) in
-      (r .0, rw (pathRanges, stand-vertex G hu, stand-vertex G hv) (r .1), r .2)
+      (r .0, range-from kind n t u v (stand-vertex G hu) (stand-vertex G hv) ∙ r .1, r .2)
 
   -- P holds of the ranges that are found
   pub ranges-ind : {u v : ℕ} → u < n → v < n → (l : List PathRange) → pathRanges kind n t u v ≡ found l → P u v l

@@ -8,7 +8,7 @@ use mathlib.Core.List.{[], _∷_}
 use Rattle.tables.specs.Tables.{Six, six}
 use Rattle.answers.specs.declared.answer.Answer.the-variants.{Refused}
 use Rattle.climb.proofs.Passed.{Passed, verdict-passed, verdict-refused, answered, lengths, few-parent, first-below, others}
-use Rattle.climb.proofs.Climbs.{climb-off-u, climb-none-v}
+use Rattle.climb.proofs.Climbs.{climb-off-u, climb-off-v}
 use Rattle.climb.proofs.Reaching.{reached-off, reached-vertex}
 use Rattle.climb.proofs.Handed.{climbs-from}
 use Rattle.between.specs.Inner.{endOf}
@@ -63,7 +63,7 @@ reach-requires-3 c κs = record { even = lengths (passed (c .before .before .bef
 returns-4 : tie.Need-returns-4
 returns-4 c =
     let at-start = c .before .before .before .before .before .before .before .before .before .before .before .before .before .before .before .before .before .before .before in
-    answered (passed (c .before .before .before .before .before .before .before .before .before)) Refused (lca-lost-1 _ _ _ _ _ (ap endOf (sym (climb-none-v _ _ _ _ (reached-off (at-start .args .parent .now) (at-start .args .depth .now) (at-start .args .head .now) (at-start .args .id .now) (c .before .before .reach3 .ensures) (not-true _ (c .if3 .taken)) _ _)))))
+    answered (passed (c .before .before .before .before .before .before .before .before .before)) Refused (lca-lost-1 _ _ _ _ _ (ap endOf (sym (climb-off-v _ _ _ _ (reached-off (at-start .args .parent .now) (at-start .args .depth .now) (at-start .args .head .now) (at-start .args .id .now) (c .before .before .reach3 .ensures) (not-true _ (c .if3 .taken)) _ _)))))
 
 meeting-requires : tie.Need-meeting-requires
 meeting-requires c κs =

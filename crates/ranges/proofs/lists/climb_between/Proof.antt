@@ -3,7 +3,7 @@ use borrow.Author.Needs.{needs}
 use borrow.Author.Tests.{not-true, not-false}
 use mathlib.Core.Path.{sym, _∙_}
 use Rattle.climb.proofs.Reaching.{reached-off}
-use Rattle.climb.proofs.Climbs.{climb-off-u, climb-none-v}
+use Rattle.climb.proofs.Climbs.{climb-off-u, climb-off-v}
 use Rattle.climb.proofs.Handed.{climbs-from, climbed-there, climbed-off, climbed-unhung, climbed-on}
 use Rattle.ranges.proofs.Bounds.{climbs-small}
 use Rattle.ranges.proofs.lists.climb_between.Statement.{statement}
@@ -19,7 +19,7 @@ reach-requires-2 : tie.Need-reach-requires-2
 reach-requires-2 c κs = search needs
 
 returns-2 : tie.Need-returns-2
-returns-2 c = λ o s. climb-none-v _ _ _ _ (reached-off _ _ _ _ (c .before .before .reach2 .ensures) (not-true _ (c .if2 .taken)) o s)
+returns-2 c = λ o s. climb-off-v _ _ _ _ (reached-off _ _ _ _ (c .before .before .reach2 .ensures) (not-true _ (c .if2 .taken)) o s)
 
 climb-to-lca-requires : tie.Need-climb-to-lca-requires
 climb-to-lca-requires c κs = climbs-from _ _ _ _ (c .before .before .before .before .before .reach .ensures) (not-false _ (c .before .before .before .if1 .left)) (c .before .before .reach2 .ensures) (not-false _ (c .if2 .left)) (c .before .before .before .before .before .before .before .before .before .before .pre .even) (climbs-small (c .before .before .before .before .before .before .before .before .before .before .pre))
