@@ -1,14 +1,12 @@
--- Laws of the climb: one look of it in each case, what a move keeps, and the climb from a state of it.
+-- Laws of the climb: one look of it in each case, and the climb from a state of it.
 use Prim.Native.Nat.{ℕ, zero, suc, _+_, _-_, _≤_, _<_}
 use native.Mathlib.Omega.{arith}
 use native.Mathlib.Decide.{decLt}
 use mathlib.Core.Path.{_≡_, refl, sym, ap, _∙_}
-use mathlib.Core.Bool.{Bool, true, false}
-use mathlib.Core.List.{List, []}
-use lib.Dec.{eqb, leb, ltb}
+use mathlib.Core.List.{[]}
+use lib.Dec.{ltb}
 use lib.ListN.{length}
-use borrow.Author.Tests.{lt-ltb, le-ltb, le-leb, lt-leb, eq-eqb, ne-eqb, ltb-true, eqb-false}
-use Rattle.sums.specs.Sum.{at}
+use borrow.Author.Tests.{lt-ltb, le-ltb, le-leb, lt-leb, eq-eqb, ne-eqb}
 use Rattle.answers.specs.Limits.{noParent}
 use Rattle.numbering.specs.Log.{log2}
 use Rattle.tables.specs.Tables.{Six}
@@ -16,12 +14,11 @@ use Rattle.answers.specs.Choice.{pick}
 use Rattle.answers.proofs.Choices.{pick-same}
 use Rattle.climb.specs.Sound.{Stood, On, Unsound, standOn}
 use Rattle.climb.specs.Climbing.{Ascent, strays, meets, uLeaves, vLeaves, above, look, ascending, ascent, endOf, climbTo}
-use Rattle.climb.specs.Inner.{Placed, climbStart, uMoved, vMoved}
+use Rattle.climb.specs.Inner.{climbStart, uMoved, vMoved}
 use Rattle.climb.specs.declared.places.Place.{Place}
 use Rattle.climb.specs.declared.places.Climb.{Climb}
 use Rattle.climb.specs.declared.places.Climbed.{Climbed}
 use Rattle.climb.specs.declared.places.Climbed.the-variants.{Met, Lost}
-use Rattle.climb.proofs.Soundness.{stood-place, stood-placed}
 
 -- Leaving a chain.
 
@@ -37,23 +34,6 @@ leave-worn n t p left h = rw (le-ltb left (log2 n) h)
 
 pub leave-stands : (n : ℕ) (t : Six) (p : Place) (left : ℕ) → (p .up ≡ noParent → ⊥) → left < log2 n → standOn n t (p .up) ≡ leaveChain n t p left
 leave-stands n t p left ne h = rw (ne-eqb (p .up) noParent ne, lt-ltb left (log2 n) h)
-
-pick-second : (b : Bool) (s : Stood) {r : Place} → pick b Unsound s ≡ On r → (b ≡ false) × (s ≡ On r)
-pick-second true s e = let z : _≡_ {A = ℕ} 0 1 = cc in absurd (omega arith)
-pick-second false s e = (refl, e)
-
--- the place above p is sound and less deep
-pub record Higher (n : ℕ) (D : List ℕ) (p r : Place) : Type 0 where
-  pub placed : Placed n D r
-  pub lower : r .depth < p .depth
-
-pub higher : (n : ℕ) (t : Six) (p : Place) {r : Place} → Placed n (t .depth) p → above n t p ≡ On r → Higher n (t .depth) p r
-higher n t p {r} on e =
-    let a = pick-second (eqb (p .up) noParent) _ e in
-    let d : r .depth ≡ at (t .depth) (p .up) = ap (λ (q : Place). q .depth) (stood-place n t (p .up) (a .1)) in
-    let f = on .up-depth (eqb-false (p .up) noParent (a .0)) in
-    let g = on .top-low in
-    record { placed = stood-placed n t (p .up) (a .1); lower = omega arith }
 
 -- One look.
 
@@ -78,52 +58,15 @@ module _ (n : ℕ) (t : Six) (p q : Place) where
   looks (suc a) zero = refl
   looks (suc a) (suc b) = refl
 
-  pub ascending-met : (a b : ℕ) → p .head ≡ q .head → ascending a b n t p q ≡ meets [] [] p q
+  ascending-met : (a b : ℕ) → p .head ≡ q .head → ascending a b n t p q ≡ meets [] [] p q
   ascending-met a b e = looks a b ∙ rw (eq-eqb (p .head) (q .head) e, look)
 
   module _ (apart : p .head ≡ q .head → ⊥) where
-    pub ascending-u : (a b : ℕ) → q .top ≤ p .top → ascending a b n t p q ≡ ascent-by (λ r. uLeaves p (u-on a b r)) (above n t p)
+    ascending-u : (a b : ℕ) → q .top ≤ p .top → ascending a b n t p q ≡ ascent-by (λ r. uLeaves p (u-on a b r)) (above n t p)
     ascending-u a b h = looks a b ∙ rw (ne-eqb (p .head) (q .head) apart, le-leb (q .top) (p .top) h, look)
 
-    pub ascending-v : (a b : ℕ) → p .top < q .top → ascending a b n t p q ≡ ascent-by (λ r. vLeaves q (v-on a b r)) (above n t q)
+    ascending-v : (a b : ℕ) → p .top < q .top → ascending a b n t p q ≡ ascent-by (λ r. vLeaves q (v-on a b r)) (above n t q)
     ascending-v a b h = looks a b ∙ rw (ne-eqb (p .head) (q .head) apart, lt-leb (q .top) (p .top) h, look)
-
--- What holds of a climb that strays and of two places on one chain, and stays when a side leaves its chain for the place above, holds of every climb.
-module _ (n : ℕ) (t : Six) (K : (a b : ℕ) → (p q : Place) → Ascent → Type 0)
-    (stray : (a b : ℕ) (p q : Place) → K a b p q strays)
-    (met : (a b : ℕ) (p q : Place) → K a b p q (meets [] [] p q))
-    (u-step : (a b : ℕ) (p q r : Place) (x : Ascent) → above n t p ≡ On r → K a b r q x → K (suc a) b p q (uLeaves p x))
-    (v-step : (a b : ℕ) (p q r : Place) (x : Ascent) → above n t q ≡ On r → K a b p r x → K a (suc b) p q (vLeaves q x)) where
-  look-all : (a b : ℕ) (p q : Place) (u v : Place → Ascent)
-      → ((r : Place) → above n t p ≡ On r → K a b p q (uLeaves p (u r)))
-      → ((r : Place) → above n t q ≡ On r → K a b p q (vLeaves q (v r)))
-      → K a b p q (look n t p q u v)
-  look-all a b p q u v on-u on-v = on (eqb (p .head) (q .head)) (leb (q .top) (p .top)) (above n t p) (above n t q) refl refl
-    where
-      on : (i j : Bool) (s z : Stood) → above n t p ≡ s → above n t q ≡ z
-          → K a b p q (elim i [
-            | true ↦ meets [] [] p q
-            | false ↦ elim j [ true ↦ ascent-by (λ r. uLeaves p (u r)) s | false ↦ ascent-by (λ r. vLeaves q (v r)) z ]
-          ])
-      on true j s z e f = met a b p q
-      on false true (On r) z e f = on-u r e
-      on false true Unsound z e f = stray a b p q
-      on false false s (On r) e f = on-v r f
-      on false false s Unsound e f = stray a b p q
-
-  pub ascending-all : (a b : ℕ) (p q : Place) → K a b p q (ascending a b n t p q)
-  unfolding ascending
-  ascending-all zero zero p q = look-all 0 0 p q (λ r. strays) (λ r. strays) (λ r e. stray 0 0 p q) (λ r e. stray 0 0 p q)
-  ascending-all zero (suc b) p q =
-      look-all 0 (suc b) p q (λ r. strays) (λ r. ascending 0 b n t p r) (λ r e. stray 0 (suc b) p q)
-      (λ r e. v-step 0 b p q r (ascending 0 b n t p r) e (ascending-all 0 b p r))
-  ascending-all (suc a) zero p q =
-      look-all (suc a) 0 p q (λ r. ascending a 0 n t r q) (λ r. strays)
-      (λ r e. u-step a 0 p q r (ascending a 0 n t r q) e (ascending-all a 0 r q)) (λ r e. stray (suc a) 0 p q)
-  ascending-all (suc a) (suc b) p q =
-      look-all (suc a) (suc b) p q (λ r. ascending a (suc b) n t r q) (λ r. ascending (suc a) b n t p r)
-      (λ r e. u-step a (suc b) p q r (ascending a (suc b) n t r q) e (ascending-all a (suc b) r q))
-      (λ r e. v-step (suc a) b p q r (ascending (suc a) b n t p r) e (ascending-all (suc a) b p r))
 
 -- no climb goes on
 by-none : (s : Stood) → ascent-by (λ r. strays) s ≡ strays

@@ -1,6 +1,7 @@
 pub mod Bounds
 pub mod Slots
 pub mod ReadBack
+pub mod Ends
 pub mod Looks
 pub mod Hung
 pub mod Numbered

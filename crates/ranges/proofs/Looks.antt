@@ -1,24 +1,24 @@
 -- Laws of the ranges of a climb: one look in each case, and that they are as many as the climb counts.
-use Prim.Native.Nat.{ℕ, suc, _+_, _≤_, _<_}
+use Prim.Native.Nat.{ℕ, _+_, _≤_, _<_}
 use native.Mathlib.Omega.{arith}
-use mathlib.Core.Path.{_≡_, refl, sym, ap, _∙_}
+use mathlib.Core.Path.{_≡_, refl, ap, _∙_}
 use mathlib.Core.List.{List, [], _∷_, _++_, map, reverse, append-nil, append-assoc, reverse-cons, map-append}
 use lib.ListN.{length, length-append, length-map, length-reverse}
 use Rattle.numbering.specs.Log.{log2}
 use Rattle.tables.specs.Tables.{Six}
-use Rattle.climb.specs.Sound.{standOn, Stood, On, Unsound}
-use Rattle.climb.specs.Climbing.{Ascent, strays, meets, uLeaves, vLeaves, above, ascending, ascent, endOf, climbTo}
+use Rattle.climb.specs.Sound.{standOn, On, Unsound}
+use Rattle.climb.specs.Climbing.{Ascent, strays, meets, uLeaves, vLeaves, ascent, endOf, climbTo}
 use Rattle.climb.specs.Inner.{Placed, climbStart, uMoved, vMoved}
 use Rattle.climb.specs.declared.places.Place.{Place}
 use Rattle.climb.specs.declared.places.Climb.{Climb}
 use Rattle.climb.specs.declared.places.Climbed.{Climbed}
 use Rattle.climb.specs.declared.places.Climbed.the-variants.{Met, Lost}
-use Rattle.climb.proofs.Soundness.{stood-placed}
-use Rattle.climb.proofs.Climbs.{leaveChain, higher, ascending-all, ascentFrom, ascent-met, ascent-by-u, ascent-by-v, ascent-from, ascent-off-u, ascent-off-v}
+use Rattle.climb.proofs.Climbs.{leaveChain, ascentFrom, ascent-met, ascent-by-u, ascent-by-v, ascent-from, ascent-off-u, ascent-off-v}
 use Rattle.ranges.specs.declared.kinds.PathRange.{PathRange}
 use Rattle.ranges.specs.declared.kinds.Kind.{Kind}
 use Rattle.ranges.specs.Ranges.{Found, lost, found, uPiece, vPiece, lastPiece, chainRange, lastRange, rangesAlong, pathRanges}
 use Rattle.ranges.specs.Inner.{lastChain}
+use Rattle.ranges.proofs.Ends.{EndsWell, ascent-ends}
 
 -- the range of the chain that a side leaves
 abbrev pub uRange : Kind → Place → PathRange
@@ -88,46 +88,6 @@ module _ (kind : Kind) (n : ℕ) (t : Six) (u v : ℕ) where
   range-off-v e = ap (rangesAlong kind) (ascent-off-v n t u v e)
 
 -- The climb and its ranges.
-
--- no side leaves more chains than it may, and both ends stand on sound vertices
-record Ended (n : ℕ) (D : List ℕ) (a b : ℕ) (us vs : List Place) (p q : Place) : Type 0 where
-  u-few : length us ≤ a
-  v-few : length vs ≤ b
-  u-placed : Placed n D p
-  v-placed : Placed n D q
-
-abbrev EndsWell : ℕ → List ℕ → (a b : ℕ) → Ascent → Type 0
-EndsWell n D a b strays = Unit {0}
-EndsWell n D a b (meets us vs p q) = Ended n D a b us vs p q
-
-module _ (n : ℕ) (t : Six) where
-  abbrev Ends : (a b : ℕ) → (p q : Place) → Ascent → Type 0
-  Ends a b p q x = Placed n (t .depth) p → Placed n (t .depth) q → EndsWell n (t .depth) a b x
-
-  more-u : (a b : ℕ) (x : Place) (y : Ascent) → EndsWell n (t .depth) a b y → EndsWell n (t .depth) (suc a) b (uLeaves x y)
-  more-u a b x strays e = tt
-  more-u a b x (meets us vs p q) e = record { u-few = omega (arith, e .u-few); v-few = e .v-few; u-placed = e .u-placed; v-placed = e .v-placed }
-
-  more-v : (a b : ℕ) (x : Place) (y : Ascent) → EndsWell n (t .depth) a b y → EndsWell n (t .depth) a (suc b) (vLeaves x y)
-  more-v a b x strays e = tt
-  more-v a b x (meets us vs p q) e = record { u-few = e .u-few; v-few = omega (arith, e .v-few); u-placed = e .u-placed; v-placed = e .v-placed }
-
-  ascending-ends : (a b : ℕ) (p q : Place) → Ends a b p q (ascending a b n t p q)
-  ascending-ends =
-      ascending-all n t Ends
-      (λ a b p q i j. tt)
-      (λ a b p q i j. record { u-few = omega arith; v-few = omega arith; u-placed = i; v-placed = j })
-      (λ a b p q r x e on i j. more-u a b p x (on (higher n t p i e .placed) j))
-      (λ a b p q r x e on i j. more-v a b q x (on i (higher n t q j e .placed)))
-
-  ascent-ends : (u v : ℕ) → EndsWell n (t .depth) (log2 n) (log2 n) (ascent n t u v)
-  unfolding ascent
-  ascent-ends u v = on (standOn n t u) (standOn n t v) refl refl
-    where
-      on : (a b : Stood) → standOn n t u ≡ a → standOn n t v ≡ b → EndsWell n (t .depth) (log2 n) (log2 n) (ascent n t u v)
-      on Unsound b e f = rw (ascent-off-u n t u v e) tt
-      on (On p) Unsound e f = rw (ascent-off-v n t u v f) tt
-      on (On p) (On q) e f = rw (ascent, e, f) (ascending-ends (log2 n) (log2 n) p q (stood-placed n t u e) (stood-placed n t v f))
 
 -- a climb that is met at d, and its ranges: those of the chains that were left, and of the last chain
 pub record Counted (kind : Kind) (n : ℕ) (D : List ℕ) (d : Climb) (f : Found) : Type 0 where

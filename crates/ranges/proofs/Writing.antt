@@ -1,6 +1,6 @@
 -- The state of the second climb, as the loop of `write_path` keeps it: writing what is left into its slots gives the ranges of the path. Since its
 -- ranges are known, no side is lost, and every head on the way hangs.
-use Prim.Native.Nat.{ℕ, suc, _+_, _-_, _*_, _≤_, _<_}
+use Prim.Native.Nat.{ℕ, _+_, _-_, _*_, _≤_, _<_}
 use native.Mathlib.Omega.{arith}
 use mathlib.Core.Path.{_≡_, refl, sym, ap, _∙_, subst}
 use mathlib.Core.Bool.{Bool, true, false}
