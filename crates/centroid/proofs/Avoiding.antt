@@ -1,14 +1,12 @@
 -- Paths that avoid a vertex, and the parts that a component falls into when a vertex is removed.
-use Prim.Native.Nat.{ℕ, _*_, _≤_, _<_}
-use mathlib.Core.Path.{_≡_, refl, sym, ap, _∙_, subst}
+use Prim.Native.Nat.{ℕ}
+use mathlib.Core.Path.{_≡_, refl, sym, ap, subst}
 use mathlib.Core.Bool.{Bool, true, false, not, true≢false}
 use mathlib.Core.List.{List, _∷_}
 use lib.Dec.{eqb}
-use Rattle.sums.specs.Sum.{howMany}
-use Rattle.sums.proofs.Images.{howMany-same}
 use Rattle.paths.specs.Walk.{In}
 use Rattle.paths.specs.Route.{ptail, On}
-use Rattle.centroid.specs.Components.{every, inPart, Halves, CentroidFrom}
+use Rattle.centroid.specs.Components.{every, inPart}
 use Rattle.centroid.proofs.Tests.{every-in, in-every, other-true, other-ne, not-passed, passed-not-failed}
 
 -- the path from u to w avoids v
@@ -56,24 +54,3 @@ module _ (way : ℕ → ℕ → List ℕ) (C : ℕ → Bool) (v w x : ℕ) where
   -- outside there is no part
   pub out-part : C x ≡ false → inPart way C v w x ≡ false
   out-part e = rw (e, inPart) refl
-
--- components that agree on the vertices have the same parts and the same centroid
-module _ (n : ℕ) (way : ℕ → ℕ → List ℕ) (C C′ : ℕ → Bool) (same : (x : ℕ) → x < n → C x ≡ C′ x) where
-  part-same : (v w x : ℕ) → x < n → inPart way C v w x ≡ inPart way C′ v w x
-  part-same v w x h = ap (λ (b : Bool). elim b as (λ c. Bool) [ true ↦ every (λ y. not (eqb y v)) (w ∷ way w x) | false ↦ false ]) (same x h)
-
-  halves-same : (v : ℕ) → Halves n way C v → Halves n way C′ v
-  halves-same v f w hw c ne =
-      subst (λ (m : ℕ). 2 * m ≤ howMany n C′) (howMany-same n (inPart way C v w) (inPart way C′ v w) (part-same v w))
-      (subst (λ (m : ℕ). 2 * howMany n (inPart way C v w) ≤ m) (howMany-same n C C′ same) (f w hw (same w hw ∙ c) ne))
-
-module _ (n : ℕ) (way : ℕ → ℕ → List ℕ) (C C′ : ℕ → Bool) (same : (x : ℕ) → x < n → C x ≡ C′ x) where
-  -- so the centroid is the same
-  pub centroid-same : {s c : ℕ} → s < n → c < n → CentroidFrom n way C s c → CentroidFrom n way C′ s c
-  centroid-same {s} {c} hs hc f =
-      record {
-        inside = sym (same c hc) ∙ f .inside;
-        start-inside = sym (same s hs) ∙ f .start-inside;
-        halves = halves-same n way C C′ same c (f .halves);
-        nearer = λ y hy cy ne h. f .nearer y hy (same y hy ∙ cy) ne (halves-same n way C′ C (λ x hx. sym (same x hx)) y h);
-      }

@@ -23,6 +23,7 @@ use Rattle.centroid.specs.Regions.{startsFrom, startAt, parentsFrom, par
 use Rattle.centroid.specs.Decomposition.{DecompositionOf}
 use Rattle.centroid.specs.Search.{LentTree, live}
 use Rattle.centroid.specs.Parting.{first, Parting, PartingIn, RemoveAsks, Removed, DecomposeAsks, Decomposed}
+use Rattle.centroid.proofs.Ways.{centroid-ways}
 use Rattle.centroid.proofs.Living.{unmarked-live}
 use Rattle.centroid.proofs.Classes.{on-joined}
 use Rattle.centroid.proofs.Pending.{parting-few, parting-all, centroid-at-same}
@@ -62,10 +63,10 @@ parted {n = n} {level = level} T g e =
     record {
       up-long = g .up-long;
       level-long = g .level-long;
-      centroids = λ par dep S c hc.
-          centroid-at-same S hc (gone c hc) refl (held c hc) (λ u hu l. held u hu)
+      centroids = λ way W c hc.
+          centroid-ways (T .spans) W hc (centroid-at-same (T .spans) hc (gone c hc) refl (held c hc) (λ u hu l. held u hu)
           (λ y hy. ap (λ (x : ℕ). leb x (lv y)) (sym (held c hc)) ∙ ap (leb (at level c)) (sym (held y hy)))
-          (g .parting par dep S .centroids c hc (gone c hc));
+          (g .parting (T .par) (T .dep) (T .spans) .centroids c hc (gone c hc)));
     }
 
 -- "no parent" as the code has it

@@ -1,3 +1,4 @@
+pub mod Ways
 pub mod Tests
 pub mod Classes
 pub mod Between

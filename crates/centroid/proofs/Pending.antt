@@ -17,7 +17,7 @@ use Rattle.centroid.specs.Decomposition.{Began, first, next, CentroidAt}
 use Rattle.centroid.specs.Search.{joinedBy}
 use Rattle.centroid.specs.Parting.{Parting}
 use Rattle.centroid.proofs.Classes.{joined-self, joined-same}
-use Rattle.centroid.proofs.Avoiding.{centroid-same}
+use Rattle.centroid.proofs.Ways.{centroid-same}
 
 -- a vertex is removed or left
 one-of-two : (a n : ℕ) → tally (ltb a n) + tally (leb n a) ≡ 1
@@ -73,6 +73,6 @@ module _ {n : ℕ} {A : ℕ → List ℕ} {par dep : ℕ → ℕ} (Sp : Spans n 
         start = f .start;
         start-below = f .start-below;
         began = began-same (f .began);
-        centroid = centroid-same n (ptail par dep) (componentOf (ptail par dep) lv c) (componentOf (ptail par dep) lv′ c)
-            (λ x hx. joined-same (Sp .rooted) (λ y. leb (lv c) (lv y)) (λ y. leb (lv′ c) (lv′ y)) hc hx tests) (f .start-below) hc (f .centroid);
+        centroid = centroid-same n (ptail par dep) (ptail par dep) (componentOf (ptail par dep) lv c) (componentOf (ptail par dep) lv′ c)
+            (λ u v hu hv. refl) (λ x hx. joined-same (Sp .rooted) (λ y. leb (lv c) (lv y)) (λ y. leb (lv′ c) (lv′ y)) hc hx tests) (f .start-below) hc (f .centroid);
       }

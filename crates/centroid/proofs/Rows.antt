@@ -1,7 +1,7 @@
 -- One centroid is removed: the rows of the two tables, its own and those before.
 use Prim.Native.Nat.{ℕ, _≤_, _<_}
 use native.Mathlib.Omega.{arith}
-use mathlib.Core.Path.{_≡_, sym, ap, _∙_, subst}
+use mathlib.Core.Path.{_≡_, refl, sym, ap, _∙_, subst}
 use mathlib.Core.Logic.{_≢_}
 use mathlib.Core.Bool.{true}
 use mathlib.Core.List.{List}
@@ -18,7 +18,7 @@ use Rattle.centroid.specs.Search.{joinedBy}
 use Rattle.centroid.specs.Parting.{Pends, first, next, Entry, Parting}
 use Rattle.centroid.proofs.Tests.{same-test}
 use Rattle.centroid.proofs.Classes.{same-class, joined-same, joined-weaker}
-use Rattle.centroid.proofs.Avoiding.{centroid-same}
+use Rattle.centroid.proofs.Ways.{centroid-same}
 use Rattle.centroid.proofs.Pending.{centroid-at-same}
 use Rattle.centroid.proofs.Removing.{Changed, head, level-small, c-left, all-left}
 
@@ -63,7 +63,8 @@ module _ {n : ℕ} {A : ℕ → List ℕ} {par dep : ℕ → ℕ} (Sp : Spans n 
           start = S h;
           start-below = start-below;
           began = begins (first-entry .began);
-          centroid = centroid-same n (ptail par dep) (joinedBy (ptail par dep) (λ y. leb n (lv y)) (S h)) (componentOf (ptail par dep) lv′ c) same-component start-below hc F;
+          centroid = centroid-same n (ptail par dep) (ptail par dep) (joinedBy (ptail par dep) (λ y. leb n (lv y)) (S h)) (componentOf (ptail par dep) lv′ c)
+              (λ u v hu hv. refl) same-component start-below hc F;
         }
       where
         begins : Pends n A lv (S h) (P h) (L h) → Began n A up′ lv′ c (S h)

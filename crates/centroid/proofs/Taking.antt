@@ -26,7 +26,7 @@ use Rattle.centroid.specs.Search.{live, joinedBy, WalkAsks, Found}
 use Rattle.centroid.specs.Parting.{Parting, leftOf, AddAsks, Added, RemoveAsks, Removed}
 use Rattle.centroid.proofs.Living.{live-mark, live-kept, live-behind}
 use Rattle.centroid.proofs.Classes.{joined-same}
-use Rattle.centroid.proofs.Avoiding.{centroid-same}
+use Rattle.centroid.proofs.Ways.{centroid-same}
 use Rattle.centroid.proofs.Pending.{parting-few}
 use Rattle.centroid.proofs.Removing.{Changed, level-small}
 use Rattle.centroid.proofs.Stepping.{LeftBeside, Extended, parting-more}
@@ -73,9 +73,9 @@ module _ {os ts : List ℕ} {n h t : ℕ} {up level w : List ℕ} (a : RemoveAsk
     centroid : (par dep : ℕ → ℕ) → Spans n (Stands (listOf os ts)) 0 par dep
         → CentroidFrom n (ptail par dep) (joinedBy (ptail par dep) (λ y. leb n (a .state .lv y)) (at w (startAt n h))) (at w (startAt n h)) c
     centroid par dep S =
-        centroid-same n (ptail par dep) (joinedBy (ptail par dep) (live w n) (at w (startAt n h)))
+        centroid-same n (ptail par dep) (ptail par dep) (joinedBy (ptail par dep) (live w n) (at w (startAt n h)))
         (joinedBy (ptail par dep) (λ y. leb n (a .state .lv y)) (at w (startAt n h)))
-        (λ x hx. joined-same (S .rooted) (live w n) (λ y. leb n (a .state .lv y)) start-below hx (a .state .marks)) start-below (f .below) (f .centroid par dep S)
+        (λ u v hu hv. refl) (λ x hx. joined-same (S .rooted) (live w n) (λ y. leb n (a .state .lv y)) start-below hx (a .state .marks)) start-below (f .below) (f .centroid par dep S)
 
     -- the level is below n
     pub take-level : at w (levelAt n h) < n

@@ -1,4 +1,4 @@
--- 01, "Definitions", centroid: components and parts of a tree, as tests on its vertices. `way u v` is what follows u on the simple path to v.
+-- 01, "Definitions", centroid: components and parts of a tree, as tests on its vertices.
 use Prim.Native.Nat.{ℕ, _*_, _≤_, _<_}
 use mathlib.Core.Path.{_≡_}
 use mathlib.Core.Logic.{_≢_}
@@ -7,6 +7,12 @@ use mathlib.Core.List.{List, [], _∷_}
 use lib.Dec.{eqb, leb}
 use lib.ListN.{length}
 use Rattle.sums.specs.Sum.{howMany}
+use Rattle.paths.specs.Walk.{Stands, Simple}
+
+-- `way u v` is what follows u on the simple path to v, in the tree of n vertices with the lists A. A tree has one such path, so this says nothing of
+-- the tables.
+pub record Ways (n : ℕ) (A : ℕ → List ℕ) (way : ℕ → ℕ → List ℕ) : Type 0 where
+  pub simple : {u v : ℕ} → u < n → v < n → Simple n (Stands A) u v (way u v)
 
 -- each entry of a list passes the test
 abbrev pub every : (ℕ → Bool) → List ℕ → Bool

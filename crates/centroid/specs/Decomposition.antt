@@ -4,11 +4,9 @@ use mathlib.Core.Path.{_≡_}
 use mathlib.Core.List.{List}
 use lib.ListN.{length}
 use Rattle.sums.specs.Sum.{at}
-use Rattle.paths.specs.Walk.{In, Stands}
-use Rattle.paths.specs.Rooted.{Spans}
-use Rattle.paths.specs.Route.{ptail}
+use Rattle.paths.specs.Walk.{In}
 use Rattle.answers.specs.Limits.{noParent}
-use Rattle.centroid.specs.Components.{componentOf, CentroidFrom}
+use Rattle.centroid.specs.Components.{Ways, componentOf, CentroidFrom}
 
 -- where the search for c began: at 0, with no parent and level 0; or at a neighbour of c's parent, with a level one more than the parent's
 pub data Began (n : ℕ) (A : ℕ → List ℕ) (up level : ℕ → ℕ) (c : ℕ) : ℕ → Type 0 where
@@ -22,8 +20,8 @@ pub record CentroidAt (n : ℕ) (A : ℕ → List ℕ) (way : ℕ → ℕ → Li
   pub began : Began n A up level c start
   pub centroid : CentroidFrom n way (componentOf way level c) start c
 
--- the two tables of the decomposition of the tree with the lists A. `par` and `dep` are the tree's from root 0, which give the simple paths.
+-- the two tables of the decomposition of the tree with the lists A, by any way of its simple paths
 pub record DecompositionOf (n : ℕ) (A : ℕ → List ℕ) (up level : List ℕ) : Type 0 where
   pub up-long : length up ≡ n
   pub level-long : length level ≡ n
-  pub centroids : (par dep : ℕ → ℕ) → Spans n (Stands A) 0 par dep → (c : ℕ) → c < n → CentroidAt n A (ptail par dep) (at up) (at level) c
+  pub centroids : (way : ℕ → ℕ → List ℕ) → Ways n A way → (c : ℕ) → c < n → CentroidAt n A way (at up) (at level) c

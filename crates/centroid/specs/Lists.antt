@@ -7,11 +7,8 @@ use mathlib.Core.List.{List, [], _∷_, _++_, map}
 use lib.Dec.{eqb}
 use lib.ListN.{length}
 use Rattle.sums.specs.Sum.{at}
-use Rattle.paths.specs.Walk.{Stands}
-use Rattle.paths.specs.Rooted.{Spans}
-use Rattle.paths.specs.Route.{ptail}
 use Rattle.numbering.specs.RuleOne.{keep}
-use Rattle.centroid.specs.Components.{componentOf}
+use Rattle.centroid.specs.Components.{Ways, componentOf}
 use Rattle.centroid.specs.Decomposition.{DecompositionOf}
 
 -- the neighbours of x that are in the component C and one step farther from c than x, in list order
@@ -35,16 +32,15 @@ abbrev pub joined : (ℕ → List ℕ) → ℕ → List ℕ
 joined f zero = []
 joined f (suc k) = joined f k ++ f k
 
--- vertices, distances, branches and starts of the tree with the lists A; q c is c's component breadth first
+-- vertices, distances, branches and starts of the tree with the lists A, by any way of its simple paths; q c is c's component breadth first
 pub record ListsOf (n : ℕ) (A : ℕ → List ℕ) (vertices distances branches starts : List ℕ) : Type 0 where
   pub up : List ℕ
   pub level : List ℕ
   pub decomposition : DecompositionOf n A up level
   pub q : ℕ → List ℕ
-  pub breadth : (par dep : ℕ → ℕ) → Spans n (Stands A) 0 par dep → (c : ℕ) → c < n
-      → Breadth A (ptail par dep) (componentOf (ptail par dep) (at level) c) c (q c)
+  pub breadth : (way : ℕ → ℕ → List ℕ) → Ways n A way → (c : ℕ) → c < n → Breadth A way (componentOf way (at level) c) c (q c)
   pub all-vertices : vertices ≡ joined q n
-  pub all-distances : (par dep : ℕ → ℕ) → Spans n (Stands A) 0 par dep → distances ≡ joined (λ c. map (λ x. length (ptail par dep c x)) (q c)) n
-  pub all-branches : (par dep : ℕ → ℕ) → Spans n (Stands A) 0 par dep → branches ≡ joined (λ c. map (branchOf (ptail par dep) c) (q c)) n
+  pub all-distances : (way : ℕ → ℕ → List ℕ) → Ways n A way → distances ≡ joined (λ c. map (λ x. length (way c x)) (q c)) n
+  pub all-branches : (way : ℕ → ℕ → List ℕ) → Ways n A way → branches ≡ joined (λ c. map (branchOf way c) (q c)) n
   pub starts-long : length starts ≡ n + 1
   pub all-starts : (c : ℕ) → c < n + 1 → at starts c ≡ length (joined q c)

@@ -8,6 +8,7 @@ use Rattle.paths.specs.Rooted.{Spans}
 use Rattle.paths.specs.Route.{ptail}
 use Rattle.centroid.specs.Components.{componentOf, CentroidFrom}
 use Rattle.centroid.specs.Decomposition.{Began, first, next, CentroidAt, DecompositionOf}
+use Rattle.centroid.proofs.Ways.{span-ways}
 use Rattle.centroidlaws.proofs.Clear.{Clear, Linked, component-clear, clear-self, clear-turn, clear-join, clear-link, clear-last}
 use Rattle.sums.specs.Sum.{at}
 
@@ -20,7 +21,7 @@ pub record Decomposed (n : ℕ) (A : ℕ → List ℕ) (par dep up level : ℕ �
 pub decomposed :
     {n : ℕ} {A : ℕ → List ℕ} {up level : List ℕ} {par dep : ℕ → ℕ} → Spans n (Stands A) 0 par dep → DecompositionOf n A up level
     → Decomposed n A par dep (at up) (at level)
-decomposed {par = par} {dep = dep} S D = record { spans = S; centroids = D .centroids par dep S }
+decomposed {par = par} {dep = dep} S D = record { spans = S; centroids = D .centroids (ptail par dep) (span-ways S) }
 
 -- the parent of c is a vertex, a neighbour of the start s, one level up, and joined to c
 pub record Parent (n : ℕ) (par dep up level : ℕ → ℕ) (c s : ℕ) : Type 0 where

@@ -1,32 +1,25 @@
--- What holds for the paths of one rooting holds for those of all: component lists may be shown for one.
+-- What holds by the paths of one rooting holds by every way: component lists may be shown by one.
 use Prim.Native.Nat.{ℕ, suc, _+_, _<_}
 use mathlib.Core.Path.{_≡_, refl, ap, ap₂, _∙_}
 use mathlib.Core.Logic.{inl, inr}
 use mathlib.Core.Bool.{Bool}
 use mathlib.Core.List.{List, [], _∷_, _++_, map}
-use lib.Dec.{eqb, leb}
+use lib.Dec.{eqb}
 use lib.ListN.{length}
 use Rattle.sums.specs.Sum.{at}
-use Rattle.paths.specs.Walk.{In, Below, Stands}
-use Rattle.paths.specs.Rooted.{Spans}
+use Rattle.paths.specs.Walk.{In, Below}
 use Rattle.paths.specs.Route.{ptail}
 use Rattle.paths.proofs.Listed.{in-below}
-use Rattle.paths.proofs.Unique.{root-free}
 use Rattle.numbering.proofs.Kept.{keep-ext}
-use Rattle.centroid.specs.Components.{every, componentOf}
+use Rattle.centroid.specs.Components.{Ways, componentOf}
 use Rattle.centroid.specs.Decomposition.{DecompositionOf}
 use Rattle.centroid.specs.Lists.{onward, onwards, Breadth, branchOf, joined, ListsOf}
+use Rattle.centroid.proofs.Ways.{SameWay, SameSet, ways-same, component-same}
 use Rattle.centroidlaws.proofs.Every.{both}
-use Rattle.centroidlaws.proofs.Centroid.{SameWay, SameSet}
 use Rattle.centroidlaws.proofs.Parents.{decomposed}
 use Rattle.centroidlaws.proofs.Before.{Listed}
 use Rattle.centroidlaws.proofs.Entries.{component-around, entries-below}
 use Rattle.centroidlaws.proofs.SameLists.{joined-same}
-
--- components do not depend on the ways
-component-same : (n : ℕ) (way way′ : ℕ → ℕ → List ℕ) → SameWay n way way′ → (level : ℕ → ℕ) {c : ℕ} → c < n
-    → SameSet n (componentOf way level c) (componentOf way′ level c)
-component-same n way way′ ways level {c} hc x hx = ap (λ (l : List ℕ). every (λ y. leb (level c) (level y)) (c ∷ l)) (ways c x hc hx)
 
 -- numbers that agree on a list's entries are the same in order
 pub map-same : (f g : ℕ → ℕ) (l : List ℕ) → ((x : ℕ) → In x l → f x ≡ g x) → map f l ≡ map g l
@@ -64,12 +57,12 @@ module _
     each-below c hc = entries-below T (component-around (decomposed (T .spans) D) hc) (B c hc)
 
     -- what is made of the ways from c to its list's entries does not depend on the ways
-    made-same : (f : ℕ → List ℕ → ℕ) {par′ dep′ : ℕ → ℕ} → Spans n (Stands A) 0 par′ dep′
-        → joined (λ c. map (λ x. f c (ptail par dep c x)) (q c)) n ≡ joined (λ c. map (λ x. f c (ptail par′ dep′ c x)) (q c)) n
-    made-same f {par′} {dep′} S′ =
-        joined-same (λ c. map (λ x. f c (ptail par dep c x)) (q c)) (λ c. map (λ x. f c (ptail par′ dep′ c x)) (q c)) n (λ c hc.
-        map-same (λ x. f c (ptail par dep c x)) (λ x. f c (ptail par′ dep′ c x)) (q c)
-        (λ x i. ap (f c) (root-free (T .spans) S′ hc (in-below n x (q c) (each-below c hc) i))))
+    made-same : (f : ℕ → List ℕ → ℕ) {way : ℕ → ℕ → List ℕ} → Ways n A way
+        → joined (λ c. map (λ x. f c (ptail par dep c x)) (q c)) n ≡ joined (λ c. map (λ x. f c (way c x)) (q c)) n
+    made-same f {way} W =
+        joined-same (λ c. map (λ x. f c (ptail par dep c x)) (q c)) (λ c. map (λ x. f c (way c x)) (q c)) n (λ c hc.
+        map-same (λ x. f c (ptail par dep c x)) (λ x. f c (way c x)) (q c)
+        (λ x i. ap (f c) (ways-same (T .spans) W c x hc (in-below n x (q c) (each-below c hc) i))))
 
     -- component lists by the paths of one rooting are the component lists
     pub lists-from :
@@ -85,12 +78,12 @@ module _
       level = level;
       decomposition = D;
       q = q;
-      breadth = λ par′ dep′ S′ c hc.
-          let ways : SameWay n (ptail par dep) (ptail par′ dep′) = λ u v hu hv. root-free (T .spans) S′ hu hv in
-          breadth-same A (T .below) ways (component-same n (ptail par dep) (ptail par′ dep′) ways (at level) hc) hc (q c) (each-below c hc) (B c hc);
+      breadth = λ way W c hc.
+          let ways : SameWay n (ptail par dep) way = ways-same (T .spans) W in
+          breadth-same A (T .below) ways (component-same n (ptail par dep) way ways (at level) hc) hc (q c) (each-below c hc) (B c hc);
       all-vertices = e₁;
-      all-distances = λ par′ dep′ S′. e₂ ∙ made-same (λ c l. length l) S′;
-      all-branches = λ par′ dep′ S′. e₃ ∙ made-same (λ c l. elim l [ [] ↦ c | (y ∷ l) ↦ y ]) S′;
+      all-distances = λ way W. e₂ ∙ made-same (λ c l. length l) W;
+      all-branches = λ way W. e₃ ∙ made-same (λ c l. elim l [ [] ↦ c | (y ∷ l) ↦ y ]) W;
       starts-long = e₄;
       all-starts = starts;
     }

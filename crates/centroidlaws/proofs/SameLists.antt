@@ -13,6 +13,7 @@ use Rattle.paths.specs.Route.{ptail}
 use Rattle.centroid.specs.Components.{componentOf}
 use Rattle.centroid.specs.Decomposition.{DecompositionOf}
 use Rattle.centroid.specs.Lists.{Breadth, branchOf, joined, ListsOf}
+use Rattle.centroid.proofs.Ways.{span-ways}
 use Rattle.centroidlaws.proofs.Parents.{decomposed}
 use Rattle.centroidlaws.proofs.Agreement.{decomposition-one}
 use Rattle.centroidlaws.proofs.Totals.{components-total}
@@ -44,9 +45,10 @@ module _
     -- each centroid has one breadth first list
     same-breadth : (c : ℕ) → c < n → L .q c ≡ M .q c
     same-breadth c hc =
+        let way = ptail par dep in
         let levels = decomposition-one S (M .decomposition) (L .decomposition) .1 in
-        breadth-one A (ptail par dep) (componentOf (ptail par dep) (at (L .level)) c) c (L .q c) (M .q c) (L .breadth par dep S c hc)
-        (subst (λ (t : List ℕ). Breadth A (ptail par dep) (componentOf (ptail par dep) (at t) c) c (M .q c)) levels (M .breadth par dep S c hc))
+        breadth-one A way (componentOf way (at (L .level)) c) c (L .q c) (M .q c) (L .breadth way (span-ways S) c hc)
+        (subst (λ (t : List ℕ). Breadth A way (componentOf way (at t) c) c (M .q c)) levels (M .breadth way (span-ways S) c hc))
 
     -- what is made of each list is the same one behind the other
     same-made : (f : ℕ → List ℕ → List ℕ) (k : ℕ) → k ≤ n → joined (λ c. f c (L .q c)) k ≡ joined (λ c. f c (M .q c)) k
@@ -54,10 +56,10 @@ module _
 
     -- the component lists of a tree are determined
     pub lists-one : (l₁ ≡ m₁) × (l₂ ≡ m₂) × (l₃ ≡ m₃) × (l₄ ≡ m₄)
-    lists-one = (
+    lists-one = let way = ptail par dep in let W = span-ways S in (
       L .all-vertices ∙ same-made (λ c q. q) n (omega arith) ∙ sym (M .all-vertices),
-      L .all-distances par dep S ∙ same-made (λ c q. map (λ x. length (ptail par dep c x)) q) n (omega arith) ∙ sym (M .all-distances par dep S),
-      L .all-branches par dep S ∙ same-made (λ c q. map (branchOf (ptail par dep) c) q) n (omega arith) ∙ sym (M .all-branches par dep S),
+      L .all-distances way W ∙ same-made (λ c q. map (λ x. length (way c x)) q) n (omega arith) ∙ sym (M .all-distances way W),
+      L .all-branches way W ∙ same-made (λ c q. map (branchOf way c) q) n (omega arith) ∙ sym (M .all-branches way W),
       ext-getD 0 l₄ m₄ (L .starts-long ∙ sym (M .starts-long)) (λ c b.
           let z = L .starts-long in
           L .all-starts c (omega arith) ∙ ap length (same-made (λ c q. q) c (omega arith)) ∙ sym (M .all-starts c (omega arith))),
@@ -68,7 +70,7 @@ pub list-holds :
     {n : ℕ} {A : ℕ → List ℕ} {par dep : ℕ → ℕ} {l₁ l₂ l₃ l₄ : List ℕ} → Listed n A par dep → (L : ListsOf n A l₁ l₂ l₃ l₄)
     → (c : ℕ) → c < n → Holds n (componentOf (ptail par dep) (at (L .level)) c) (L .q c)
 list-holds {par = par} {dep = dep} T L c hc =
-    breadth-holds T (component-around (decomposed (T .spans) (L .decomposition)) hc) (L .breadth par dep (T .spans) c hc)
+    breadth-holds T (component-around (decomposed (T .spans) (L .decomposition)) hc) (L .breadth (ptail par dep) (span-ways (T .spans)) c hc)
 
 -- the lists have together the sum of level + 1 entries
 pub lists-total :
@@ -87,6 +89,6 @@ pub lists-even :
     → Spans n (Stands A) 0 par dep → ListsOf n A l₁ l₂ l₃ l₄ → (length l₂ ≡ length l₁) × (length l₃ ≡ length l₁)
 lists-even {n} {par = par} {dep = dep} S L =
     let all = sym (ap length (L .all-vertices)) in (
-      ap length (L .all-distances par dep S) ∙ joined-map (λ c x. length (ptail par dep c x)) (L .q) n ∙ all,
-      ap length (L .all-branches par dep S) ∙ joined-map (branchOf (ptail par dep)) (L .q) n ∙ all,
+      ap length (L .all-distances (ptail par dep) (span-ways S)) ∙ joined-map (λ c x. length (ptail par dep c x)) (L .q) n ∙ all,
+      ap length (L .all-branches (ptail par dep) (span-ways S)) ∙ joined-map (branchOf (ptail par dep)) (L .q) n ∙ all,
     )

@@ -1,23 +1,26 @@
--- The decomposition and the component lists of a tree, by its simple paths.
+-- The decomposition and the component lists of a tree, by any way of its simple paths.
 use Prim.Native.Nat.{ℕ, suc, _+_, _≤_, _<_}
 use native.Mathlib.Omega.{arith}
 use native.Mathlib.Numerals.{add-one}
 use native.Mathlib.Nat.{le-trans}
 use mathlib.Core.Path.{_≡_, refl, sym, ap, _∙_}
+use mathlib.Core.Logic.{_↔_}
+use mathlib.Core.Bool.{true}
 use mathlib.Core.List.{List, map}
 use lib.ListN.{length, drop, length-append, List·getD-append}
 use lib.Seq.{slice}
 use Rattle.sums.specs.Sum.{at}
-use Rattle.paths.specs.Walk.{Stands}
+use Rattle.paths.specs.Walk.{In, Stands}
 use Rattle.paths.specs.Rooted.{Spans}
 use Rattle.paths.specs.Route.{ptail}
-use Rattle.paths.proofs.Unique.{path-simple}
 use Rattle.answers.specs.Codes.{done}
 use Rattle.answers.specs.Limits.{maxVertices}
 use Rattle.graph.specs.Lent.{vertices, listOf}
+use Rattle.centroid.specs.Components.{Ways, componentOf, inPart}
 use Rattle.centroid.specs.Decomposition.{DecompositionOf}
 use Rattle.centroid.specs.Lists.{branchOf, joined, ListsOf}
 use Rattle.centroid.specs.Calls.{decomposing, Decomposes, listing, Front, Lists}
+use Rattle.centroid.proofs.Ways.{SameWay, span-ways, ways-same, component-same, part-same}
 use Rattle.centroidlaws.proofs.Before.{Listed}
 use Rattle.graph.proofs.Passed.{all-passed}
 use Rattle.answers.proofs.Bounds.{vertices-parents}
@@ -28,18 +31,31 @@ use Rattle.centroidlaws.proofs.Determined.{decomposing-passed, listing-passed}
 use Rattle.demands.specs.Centroids.{Centroids, ComponentLists}
 use Rattle.demands.proofs.Parts.{joined-part}
 
--- the decomposition, by the paths of one rooting
-centroids-of : {n : ℕ} {A : ℕ → List ℕ} {par dep : ℕ → ℕ} {up level : List ℕ} → n ≤ maxVertices → Spans n (Stands A) 0 par dep
-    → DecompositionOf n A up level → Centroids n A up level
-centroids-of {par = par} {dep = dep} few S D = record {
-  up-long = D .up-long;
-  level-long = D .level-long;
-  way = ptail par dep;
-  simple = λ hu hv. path-simple S hu hv;
-  centroid = λ {c} hc. D .centroids par dep S c hc;
-  part = λ hc hp x hx. parent-part (le-trans few vertices-parents) S D hc hp .part x hx;
-  level-bound = λ hc. level-bound S D hc .1;
-}
+module _
+    {n : ℕ} {A : ℕ → List ℕ} {par dep : ℕ → ℕ} {up level : List ℕ}
+    (few : n ≤ maxVertices) (S : Spans n (Stands A) 0 par dep) (D : DecompositionOf n A up level)
+  where
+    -- a component is a part of its parent's
+    part-of : {way : ℕ → ℕ → List ℕ} {c : ℕ} → Ways n A way → c < n → at up c < n → (x : ℕ) → x < n
+        → componentOf way (at level) c x ≡ inPart way (componentOf way (at level) (at up c)) (at up c) c x
+    part-of {way} {c} W hc hp x hx =
+        let p = at up c in
+        let ways : SameWay n (ptail par dep) way = ways-same S W in
+        let same = component-same n (ptail par dep) way ways (at level) hp in
+        sym (component-same n (ptail par dep) way ways (at level) hc x hx)
+        ∙ parent-part (le-trans few vertices-parents) S D hc hp .part x hx
+        ∙ part-same n (ptail par dep) way (componentOf (ptail par dep) (at level) p) (componentOf way (at level) p) ways same p hc hx
+
+    -- the decomposition
+    centroids-of : Centroids n A up level
+    centroids-of = record {
+      up-long = D .up-long;
+      level-long = D .level-long;
+      has-ways = (ptail par dep, span-ways S);
+      centroid = λ {way} {c} W hc. D .centroids way W c hc;
+      part = part-of;
+      level-bound = λ hc. level-bound S D hc .1;
+    }
 
 -- what `try_centroid_decomposition` leaves
 pub centroids :
@@ -72,23 +88,30 @@ module _
         (start-of c (omega arith) ∙ sym (joined-map f (L .q) c))
         (start-next h ∙ sym (joined-map f (L .q) (suc c)))
 
-    -- the component lists, by the paths of one rooting
+    -- each list has the vertices of its component
+    component-of : {way : ℕ → ℕ → List ℕ} {c : ℕ} → Ways n A way → c < n → (x : ℕ)
+        → In x (L .q c) ↔ ((x < n) × (componentOf way (at (L .level)) c x ≡ true))
+    component-of {way} {c} W hc x =
+        let same = component-same n (ptail par dep) way (ways-same (T .spans) W) (at (L .level)) hc x in
+        let h = list-holds T L c hc .exactly x in
+        (λ i. let p = h .0 i in (p .0, sym (same (p .0)) ∙ p .1), λ p. h .1 (p .0, same (p .0) ∙ p .1))
+
+    -- the component lists
     lists-of : ComponentLists n A vs′ ds′ bs′ ss′
-    unfolding centroids-of
     lists-of = record {
       up = L .up;
       level = L .level;
       decomposition = centroids-of few (T .spans) (L .decomposition);
       list = L .q;
-      breadth-first = λ {c} hc. L .breadth par dep (T .spans) c hc;
-      component = λ {c} hc. list-holds T L c hc .exactly;
+      breadth-first = λ {way} {c} W hc. L .breadth way W c hc;
+      component = component-of;
       each-once = λ {c} hc. list-holds T L c hc .once;
       first-start = start-of 0 (omega arith);
       next-start = λ {c} hc.
           start-next hc ∙ length-append (joined (L .q) c) (L .q c) ∙ ap (λ (k : ℕ). k + length (L .q c)) (sym (start-of c (omega arith)));
       vertex-part = λ {c} hc. joined-part (L .q) n vs hc (L .all-vertices) f₁ (start-of c (omega arith)) (start-next hc);
-      distance-part = λ hc. made-part (λ c x. length (ptail par dep c x)) ds hc (L .all-distances par dep (T .spans)) f₂;
-      branch-part = λ hc. made-part (branchOf (ptail par dep)) bs hc (L .all-branches par dep (T .spans)) f₃;
+      distance-part = λ {way} W hc. made-part (λ c x. length (way c x)) ds hc (L .all-distances way W) f₂;
+      branch-part = λ {way} W hc. made-part (branchOf way) bs hc (L .all-branches way W) f₃;
       total = start-of n (omega arith) ∙ sym (ap length (L .all-vertices)) ∙ lists-total T (L .decomposition) L;
     }
 

@@ -7,9 +7,9 @@ use mathlib.Core.List.{List, map}
 use lib.ListN.{length}
 use lib.Seq.{slice}
 use Rattle.sums.specs.Sum.{at, sum}
-use Rattle.paths.specs.Walk.{In, NoDup, Stands, Simple}
+use Rattle.paths.specs.Walk.{In, NoDup}
 use Rattle.numbering.specs.Log.{log2}
-use Rattle.centroid.specs.Components.{componentOf, inPart}
+use Rattle.centroid.specs.Components.{Ways, componentOf, inPart}
 use Rattle.centroid.specs.Decomposition.{CentroidAt}
 use Rattle.centroid.specs.Lists.{Breadth, branchOf}
 
@@ -18,15 +18,14 @@ pub record Centroids (n : ℕ) (A : ℕ → List ℕ) (up level : List ℕ) : Ty
   -- "two: parent and level", each of exactly n entries
   pub up-long : length up ≡ n
   pub level-long : length level ≡ n
-  -- `way u v` is what follows u on the simple path to v; a tree has one such path, so this says nothing of the tables
-  pub way : ℕ → ℕ → List ℕ
-  pub simple : {u v : ℕ} → u < n → v < n → Simple n (Stands A) u v (way u v)
+  -- `way u v` is what follows u on the simple path to v: there is such a way, and what follows holds by any
+  pub has-ways : (way : ℕ → ℕ → List ℕ) × Ways n A way
   -- "from a start vertex, the vertex of the component whose removal leaves parts of at most half the vertices; of two such, the one nearer the start.
   -- The first start is 0; each next start is a neighbour of the removed centroid. Levels grow by 1"
-  pub centroid : {c : ℕ} → c < n → CentroidAt n A way (at up) (at level) c
+  pub centroid : {way : ℕ → ℕ → List ℕ} {c : ℕ} → Ways n A way → c < n → CentroidAt n A way (at up) (at level) c
   -- c's component is the part of its parent's in which c lies when the parent is removed
   pub part :
-      {c : ℕ} → c < n → at up c < n → (x : ℕ) → x < n
+      {way : ℕ → ℕ → List ℕ} {c : ℕ} → Ways n A way → c < n → at up c < n → (x : ℕ) → x < n
       → componentOf way (at level) c x ≡ inPart way (componentOf way (at level) (at up c)) (at up c) c x
   -- "and never exceed floor(log2 n)."
   pub level-bound : {c : ℕ} → c < n → at level c ≤ log2 n
@@ -39,16 +38,19 @@ pub record ComponentLists (n : ℕ) (A : ℕ → List ℕ) (vertices distances b
   pub decomposition : Centroids n A up level
   -- `list c`: "for c = 0 to n−1, the vertices of c's component breadth first in list order"
   pub list : ℕ → List ℕ
-  pub breadth-first : {c : ℕ} → c < n → Breadth A (decomposition .way) (componentOf (decomposition .way) (at level) c) c (list c)
-  pub component : {c : ℕ} → c < n → (x : ℕ) → In x (list c) ↔ ((x < n) × (componentOf (decomposition .way) (at level) c x ≡ true))
+  pub breadth-first : {way : ℕ → ℕ → List ℕ} {c : ℕ} → Ways n A way → c < n → Breadth A way (componentOf way (at level) c) c (list c)
+  pub component :
+      {way : ℕ → ℕ → List ℕ} {c : ℕ} → Ways n A way → c < n → (x : ℕ) → In x (list c) ↔ ((x < n) × (componentOf way (at level) c x ≡ true))
   pub each-once : {c : ℕ} → c < n → NoDup (list c)
   -- "A table of n+1 starts says where each begins."
   pub first-start : at starts 0 ≡ 0
   pub next-start : {c : ℕ} → c < n → at starts (c + 1) ≡ at starts c + length (list c)
   pub vertex-part : {c : ℕ} → c < n → slice (at starts c) (at starts (c + 1)) vertices ≡ list c
   -- "each with its distance from c"
-  pub distance-part : {c : ℕ} → c < n → slice (at starts c) (at starts (c + 1)) distances ≡ map (λ x. length (decomposition .way c x)) (list c)
+  pub distance-part :
+      {way : ℕ → ℕ → List ℕ} {c : ℕ} → Ways n A way → c < n → slice (at starts c) (at starts (c + 1)) distances ≡ map (λ x. length (way c x)) (list c)
   -- "and its branch, the neighbour of c it hangs from (c itself for c)."
-  pub branch-part : {c : ℕ} → c < n → slice (at starts c) (at starts (c + 1)) branches ≡ map (branchOf (decomposition .way) c) (list c)
+  pub branch-part :
+      {way : ℕ → ℕ → List ℕ} {c : ℕ} → Ways n A way → c < n → slice (at starts c) (at starts (c + 1)) branches ≡ map (branchOf way c) (list c)
   -- "The total length equals the sum of level(v)+1 over all vertices."
   pub total : at starts n ≡ sum n (λ v. at level v + 1)
