@@ -8,18 +8,17 @@ use borrow.Author.Tests.{eqb-true}
 use Rattle.tables.specs.Tables.{Six}
 use Rattle.answers.specs.Choice.{pick}
 use Rattle.answers.specs.Answers.{refusalCode}
-use Rattle.climb.specs.Asked.{sizeOf}
 use Rattle.answers.specs.declared.answer.Refusal.{Refusal}
 use Rattle.answers.specs.declared.answer.Refusal.the-variants.{BadSize, NoRoom, BadVertex, BadTable}
 use Rattle.answers.specs.declared.answer.Answer.{Answer}
 use Rattle.answers.specs.declared.answer.Answer.the-variants.{Is, TooFar, Refused}
-use Rattle.ranges.specs.Ranges.{Found, lost, found, pathRanges}
+use Rattle.ranges.specs.Calls.{Answered, refused, listed, rangesOf}
 use Rattle.ranges.specs.declared.kinds.Direction.{Direction}
 use Rattle.ranges.specs.declared.kinds.Direction.the-variants.{Forward, Reversed}
 use Rattle.ranges.specs.declared.kinds.PathRange.{PathRange}
 use Rattle.ranges.specs.declared.kinds.Kind.{Kind}
 use Rattle.pcases.specs.Cases.{Example, Query, answerTo, HasAnswer, HasRanges}
-use Rattle.pcases.specs.AnswerChecks.{sameAnswer, sameDirection, sameRange, found?}
+use Rattle.pcases.specs.AnswerChecks.{sameAnswer, sameDirection, sameRange, listed?}
 use Rattle.pcases.specs.Holds.{own?}
 use Rattle.pcases.proofs.Checking.{both-iff, same-list}
 use Rattle.pcases.proofs.Numbering.{tables-right}
@@ -63,9 +62,9 @@ same-range a b e =
       direction = same-direction (a .direction) (b .direction) (q .1) i;
     }
 
-found-same : (f : Found) (l : List PathRange) → found? f l ≡ true → f ≡ found l
-found-same lost l e = absurd (false≢true e)
-found-same (found m) l e = ap found (same-list sameRange same-range m l e)
+listed-same : (f : Answered) (l : List PathRange) → listed? f l ≡ true → f ≡ listed l
+listed-same (refused r) l e = absurd (false≢true e)
+listed-same (listed m) l e = ap listed (same-list sameRange same-range m l e)
 
 -- the test of an answer is right
 pub answer-right : (x : Example) (q : Query) (a : Answer) → own? x ≡ true → sameAnswer (answerTo q (x .tables)) a ≡ true → HasAnswer x q a
@@ -79,11 +78,10 @@ answer-right x q a o e =
 pub ranges-right :
     (x : Example) (kind : Kind) (u v : ℕ) (l : List PathRange)
     → own? x ≡ true
-    → found? (pathRanges kind (sizeOf (x .tables)) (x .tables) u v) l ≡ true
+    → listed? (rangesOf kind (x .tables) u v) l ≡ true
     → HasRanges x kind u v l
 ranges-right x kind u v l o e =
     record {
       has-tables = tables-right x o;
-      ranges = λ t b. ap (λ (s : Six). pathRanges kind (sizeOf s) s u v) (tables-right x o .only t b)
-          ∙ found-same (pathRanges kind (sizeOf (x .tables)) (x .tables) u v) l e;
+      ranges = λ t b. ap (λ (s : Six). rangesOf kind s u v) (tables-right x o .only t b) ∙ listed-same (rangesOf kind (x .tables) u v) l e;
     }

@@ -11,6 +11,7 @@ use Rattle.paths.specs.Rooted.{Spans}
 use Rattle.paths.specs.Route.{ptail}
 use Rattle.centroid.specs.Decomposition.{DecompositionOf}
 use Rattle.centroid.proofs.Ways.{centroid-ways}
+use Rattle.centroidlaws.proofs.Agreement.{decomposition-one}
 use Rattle.pcases.specs.Cases.{Graph, verticesOf, listsOf, HasDecomposition}
 use Rattle.pcases.specs.Checks.{all}
 use Rattle.pcases.specs.CentroidChecks.{decompositionTests}
@@ -37,11 +38,8 @@ pub decomposition-right :
     (g : Graph) (parent depth up level : List ℕ)
     → treeFrom? g 0 parent depth ≡ true
     → all (decompositionTests (verticesOf g) (listsOf g) (at parent) (at depth) up level) ≡ true
-    → HasDecomposition g parent depth up level
+    → HasDecomposition g up level
 decomposition-right g parent depth up level s e =
     let T = tree-from g 0 parent depth s in
-    record {
-      accepted = T .accepted;
-      spans = T .spans;
-      decomposition = decomposition-of (verticesOf g) (listsOf g) (at parent) (at depth) up level (T .spans) e;
-    }
+    let D = decomposition-of (verticesOf g) (listsOf g) (at parent) (at depth) up level (T .spans) e in
+    record { accepted = T .accepted; decomposition = D; only = λ up′ level′ D′. decomposition-one (T .spans) D′ D }

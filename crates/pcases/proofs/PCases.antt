@@ -11,6 +11,7 @@ use Rattle.climb.specs.Sound.{sound?}
 use Rattle.climb.specs.Climbing.{ascending, ascent, climbTo}
 use Rattle.queries.specs.Queries.{ancestorFrom}
 use Rattle.ranges.specs.Ranges.{pathRanges}
+use Rattle.ranges.specs.Calls.{rangesOf}
 use Rattle.pcases.specs.Checks.{every}
 use Rattle.pcases.specs.Cases.{Case, refused, numbered, answered, ranged, decomposed, Means, Each}
 use Rattle.pcases.specs.GraphChecks.{verdicts, firstCode}
@@ -37,7 +38,7 @@ holds-means (decomposed g parent depth up level) e =
 -- every case of the table passes its test
 pub p-cases : every holds table ≡ true
 unfolding
-    route ptail maxVertices maxTargets noParent listOf halvings log2 sound? ascending ascent climbTo ancestorFrom pathRanges
+    route ptail maxVertices maxTargets noParent listOf halvings log2 sound? ascending ascent climbTo ancestorFrom pathRanges rangesOf
     T S one pathOfFour oneWay table
 p-cases = refl
 

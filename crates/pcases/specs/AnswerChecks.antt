@@ -6,7 +6,7 @@ use Rattle.answers.specs.Answers.{refusalCode}
 use Rattle.answers.specs.declared.answer.Answer.{Answer}
 use Rattle.answers.specs.declared.answer.Answer.the-variants.{Is, TooFar, Refused}
 use Rattle.answers.specs.Choice.{both}
-use Rattle.ranges.specs.Ranges.{Found, lost, found}
+use Rattle.ranges.specs.Calls.{Answered, refused, listed}
 use Rattle.ranges.specs.declared.kinds.Direction.{Direction}
 use Rattle.ranges.specs.declared.kinds.Direction.the-variants.{Forward, Reversed}
 use Rattle.ranges.specs.declared.kinds.PathRange.{PathRange}
@@ -33,7 +33,7 @@ sameDirection Reversed Reversed = true
 abbrev pub sameRange : PathRange → PathRange → Bool
 sameRange a b = both (eqb (a .start) (b .start)) (both (eqb (a .end) (b .end)) (sameDirection (a .direction) (b .direction)))
 
--- these ranges were found
-abbrev pub found? : Found → List PathRange → Bool
-found? lost l = false
-found? (found m) l = sameList sameRange m l
+-- these ranges are listed
+abbrev pub listed? : Answered → List PathRange → Bool
+listed? (refused r) l = false
+listed? (listed m) l = sameList sameRange m l

@@ -3,18 +3,14 @@ use Prim.Native.Nat.{ℕ, _≤_}
 use mathlib.Core.Path.{_≡_}
 use mathlib.Core.List.{List, [], _∷_}
 use lib.ListN.{length}
-use Rattle.sums.specs.Sum.{at}
-use Rattle.paths.specs.Walk.{Stands}
-use Rattle.paths.specs.Rooted.{Spans}
 use Rattle.answers.specs.Codes.{done}
 use Rattle.graph.specs.Judgement.{First}
 use Rattle.graph.specs.Lent.{vertices, listOf}
 use Rattle.graph.specs.Validation.{roomOf, validation, Validates}
 use Rattle.tables.specs.Tables.{Six, TablesOf}
-use Rattle.climb.specs.Asked.{sizeOf}
 use Rattle.queries.specs.Queries.{subtreeSize, lca, jump}
 use Rattle.answers.specs.declared.answer.Answer.{Answer}
-use Rattle.ranges.specs.Ranges.{found, pathRanges}
+use Rattle.ranges.specs.Calls.{listed, rangesOf}
 use Rattle.ranges.specs.declared.kinds.Kind.{Kind}
 use Rattle.ranges.specs.declared.kinds.PathRange.{PathRange}
 use Rattle.centroid.specs.Decomposition.{DecompositionOf}
@@ -48,7 +44,7 @@ answerTo (lca-of r u v) t = lca t r u v
 answerTo (jump-of u v k) t = jump t u v k
 
 -- refused: the graph from this root gives this code; numbered: it has these tables; answered, ranged: its tables give this answer, these ranges;
--- decomposed: the tree, whose parents and depths from 0 come first, has this decomposition, `up` the parents of its centroids
+-- decomposed: the tree has this decomposition, `up` the parents of its centroids; its own parents and depths from 0 come first, for the test only
 pub data Case : Type 0 where
   refused : Graph → (root code : ℕ) → Case
   numbered : Example → Case
@@ -84,13 +80,13 @@ pub record HasAnswer (x : Example) (q : Query) (a : Answer) : Type 0 where
 -- the graph has tables, and any that it has give these ranges
 pub record HasRanges (x : Example) (kind : Kind) (u v : ℕ) (l : List PathRange) : Type 0 where
   pub has-tables : HasTables x
-  pub ranges : (t : Six) → TablesFor x t → pathRanges kind (sizeOf t) t u v ≡ found l
+  pub ranges : (t : Six) → TablesFor x t → rangesOf kind t u v ≡ listed l
 
--- the graph is accepted, is a tree with these parents and depths from 0, and has this decomposition
-pub record HasDecomposition (g : Graph) (parent depth up level : List ℕ) : Type 0 where
+-- the graph is accepted, has this decomposition, and has no other
+pub record HasDecomposition (g : Graph) (up level : List ℕ) : Type 0 where
   pub accepted : Gives g 0 done
-  pub spans : Spans (verticesOf g) (Stands (listsOf g)) 0 (at parent) (at depth)
   pub decomposition : DecompositionOf (verticesOf g) (listsOf g) up level
+  pub only : (up′ level′ : List ℕ) → DecompositionOf (verticesOf g) (listsOf g) up′ level′ → (up′ ≡ up) × (level′ ≡ level)
 
 -- what a case says
 abbrev pub Means : Case → Type 0
@@ -98,7 +94,7 @@ Means (refused g root code) = HasCode g root code
 Means (numbered x) = HasTables x
 Means (answered x q a) = HasAnswer x q a
 Means (ranged x kind u v l) = HasRanges x kind u v l
-Means (decomposed g parent depth up level) = HasDecomposition g parent depth up level
+Means (decomposed g parent depth up level) = HasDecomposition g up level
 
 -- each entry of a list has the property
 abbrev pub Each : {A : Type 0} → (A → Type 0) → List A → Type 0

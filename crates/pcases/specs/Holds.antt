@@ -5,13 +5,12 @@ use mathlib.Core.List.{List}
 use lib.Dec.{eqb, ltb}
 use Rattle.sums.specs.Sum.{at}
 use Rattle.answers.specs.Choice.{both}
-use Rattle.climb.specs.Asked.{sizeOf}
-use Rattle.ranges.specs.Ranges.{pathRanges}
+use Rattle.ranges.specs.Calls.{rangesOf}
 use Rattle.pcases.specs.Cases.{Graph, verticesOf, listsOf, Example, answerTo, Case, refused, numbered, answered, ranged, decomposed}
 use Rattle.pcases.specs.Checks.{all}
 use Rattle.pcases.specs.GraphChecks.{verdicts, firstCode, lentTests, treeTests}
 use Rattle.pcases.specs.TableChecks.{tablesTests}
-use Rattle.pcases.specs.AnswerChecks.{sameAnswer, found?}
+use Rattle.pcases.specs.AnswerChecks.{sameAnswer, listed?}
 use Rattle.pcases.specs.CentroidChecks.{decompositionTests}
 
 -- the graph is accepted: a tree with these parents and depths from this root
@@ -30,6 +29,6 @@ abbrev pub holds : Case → Bool
 holds (refused g root code) = both (ltb 0 code) (eqb (firstCode (verdicts (g .offsets) (g .targets) root)) code)
 holds (numbered x) = own? x
 holds (answered x q a) = both (own? x) (sameAnswer (answerTo q (x .tables)) a)
-holds (ranged x kind u v l) = both (own? x) (found? (pathRanges kind (sizeOf (x .tables)) (x .tables) u v) l)
+holds (ranged x kind u v l) = both (own? x) (listed? (rangesOf kind (x .tables) u v) l)
 holds (decomposed g parent depth up level) =
     both (treeFrom? g 0 parent depth) (all (decompositionTests (verticesOf g) (listsOf g) (at parent) (at depth) up level))
