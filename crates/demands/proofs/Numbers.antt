@@ -3,6 +3,7 @@ use Prim.Native.Nat.{ℕ, _<_}
 use native.Mathlib.Omega.{arith}
 use mathlib.Core.Path.{_≡_, sym, ap, subst, _∙_}
 use mathlib.Core.Logic.{_↔_, Iff·trans}
+use mathlib.Core.Bool.{Bool}
 use mathlib.Core.List.{List, _∷_, head-eq-of-cons-eq}
 use lib.ListN.{length}
 use Rattle.sums.specs.Sum.{at}
@@ -21,16 +22,17 @@ use Rattle.numbering.proofs.Sizes.{size-count, id-order}
 use Rattle.tables.specs.Tables.{Six, kidsByRuleOne}
 use Rattle.queries.specs.Queries.{lca}
 use Rattle.answers.specs.declared.answer.Answer.the-variants.{Is}
-use Rattle.pathlaws.specs.Given.{Given}
+use Rattle.pathlaws.specs.Given.{Given, pathIn, through?}
 use Rattle.pathlaws.proofs.SingleEntries.{vertex-count, root-answer, depth-answer, id-answer, range-answer}
 use Rattle.pathlaws.proofs.SimplePaths.{distance-simple, jump-simple, jump-simple-too-far, kth-simple, kth-simple-too-far, subtree-size-simple}
+use Rattle.pathlaws.proofs.SubtreeSizes.{through-on}
 use Rattle.pathlaws.proofs.Refusals.{never-nine}
 use Rattle.pathlaws.proofs.ReRooted.{lca-re-rooted}
 use Rattle.readings.proofs.SimpleReadings.{edges-simple, both-simple, simple-last}
 use Rattle.ranges.specs.declared.kinds.Kind.the-variants.{Edges, Both}
 use Rattle.paths.proofs.Hung.{tree-hangs}
 use Rattle.answers.proofs.Bounds.{vertices-parents}
-use Rattle.demands.specs.Numbers.{OnPath, Entries, Answers}
+use Rattle.demands.specs.Numbers.{OnPath, PicksSubtree, Entries, Answers}
 use Rattle.demands.proofs.Found.{ranges-of, ranges-there}
 
 -- in a tree that hangs from r, the ancestors of v are the vertices on its simple path to r
@@ -64,6 +66,16 @@ module _ {n root : ℕ} {A : ℕ → List ℕ} {t : Six} (G : Given n A root t (
       absurd (omega arith))
       (λ d. omega arith)
 
+  -- a test that picks v's subtree, seen from r
+  picks : {r v : ℕ} → r < n → v < n → (test : ℕ → Bool) × PicksSubtree n A r v test
+  picks {r} {v} hr hv =
+      let S = G .tables .spans in (
+        through? t v r,
+        λ x hx.
+            let on = through-on t v r x in
+            (λ e. (pathIn t x r, path-simple S hx hr, on .0 e), λ p. on .1 (subst (λ (l : List ℕ). In v (x ∷ l)) (path-unique S (p .1)) (p .2))),
+      )
+
   -- the entries of the tables
   pub entries : Entries n A root t
   entries =
@@ -74,6 +86,7 @@ module _ {n root : ℕ} {A : ℕ → List ℕ} {t : Six} (G : Given n A root t (
         no-parent = G .tables .no-parent;
         depth = depth-of;
         size = λ hv test f. size-count N hv test (λ x hx. Iff·trans (f x hx) (on-anc A (G .tables .spans) _ hx));
+        picks = picks;
         root-number = N .arrangement .root-id;
         numbers = λ {u} hu. N .arrangement .arranged u hu .numbers;
         children = λ {u} hu v.

@@ -36,6 +36,8 @@ pub record Entries (n : ℕ) (A : ℕ → List ℕ) (root : ℕ) (t : Six) : Typ
   pub no-parent : at (t .parent) root ≡ noParent
   pub depth : {v : ℕ} {P : List ℕ} → Simple n (Stands A) v root P → at (t .depth) v ≡ length P
   pub size : {v : ℕ} → v < n → (test : ℕ → Bool) → PicksSubtree n A root v test → at (t .size) v ≡ howMany n test
+  -- there is a test that picks v's subtree, seen from the root or any other r
+  pub picks : {r v : ℕ} → r < n → v < n → (test : ℕ → Bool) × PicksSubtree n A r v test
   -- "the root is 0"
   pub root-number : at (t .id) root ≡ 0
   -- "After a vertex comes the whole subtree of its heavy child, then those of its light children in REVERSE list order."
