@@ -3,15 +3,16 @@ use Prim.Native.Nat.{ℕ, _+_, _*_, _<_}
 use native.Mathlib.Omega.{arith}
 use native.Mathlib.Decide.{decLe}
 use mathlib.Core.Path.{_≡_, refl, sym, ap, _∙_}
-use mathlib.Core.Logic.{_⊎_, inl, inr, ⊎-elim, _≢_, _↔_}
-use mathlib.Core.List.{List, []}
+use mathlib.Core.Logic.{_⊎_, inl, inr, ⊎-elim, _≢_}
+use mathlib.Core.List.{List, [], _∷_}
 use lib.Dec.{leb}
 use lib.ListN.{length, drop, List·getD-append}
 use lib.Seq.{drop-at}
 use borrow.Author.Tests.{le-leb, lt-leb}
 use Rattle.sums.specs.Sum.{at}
-use Rattle.answers.specs.Codes.{done, noRoom}
+use Rattle.answers.specs.Codes.{done}
 use Rattle.graph.specs.Lent.{vertices}
+use Rattle.tables.specs.Tables.{Six}
 use Rattle.validate.proofs.Meaning.{validates-one}
 use Rattle.hld.proofs.Meaning.{builds-one}
 use Rattle.answers.specs.Choice.{pick}
@@ -23,32 +24,35 @@ use Rattle.answers.specs.declared.answer.Interval.{Interval}
 use Rattle.answers.specs.declared.answer.Interval.the-variants.{Between, Refused as NoInterval}
 use Rattle.answers.proofs.Choices.{pick-true, pick-false}
 use Rattle.ranges.specs.Flat.{stride, flat}
-use Rattle.ranges.specs.Calls.{Answered, refused, listed}
+use Rattle.ranges.specs.Calls.{Answered, refused, listed, rangesOf, roomAnswer}
 use Rattle.ranges.specs.Inner.{ListedAs}
 use Rattle.ranges.proofs.Slots.{flat-length}
+use Rattle.ranges.specs.declared.kinds.Kind.{Kind}
 use Rattle.ranges.specs.declared.kinds.PathRange.{PathRange}
 use Rattle.answers.specs.declared.answer.Listed.{Listed}
 use Rattle.answers.specs.declared.answer.Listed.the-variants.{Count, Refused as NotListed}
-use Rattle.records.specs.Records.{RecordedAs}
+use Rattle.records.specs.Records.{RecordedAs, recordAnswer}
 use Rattle.records.proofs.Reading.{records-one}
 use Rattle.centroid.specs.Calls.{Two, Four, Front, Lists}
 use Rattle.centroidlaws.proofs.SameLists.{lists-even}
 use Rattle.centroidlaws.proofs.Determined.{decomposes-one, lists-call-one, listing-passed}
+use Rattle.demands.specs.Tests.{RangesAsked}
 use Rattle.demands.specs.First.{Refusals, NothingWritten, PastCount, WorkLeft, Determined, FirstDemand}
+use Rattle.demands.proofs.Tests.{vertex-count-code, root-code, depth-code, vertex-id-code, subtree-range-code, distance-code, lca-code, kth-ancestor-code, jump-code, subtree-size-code, read-two-code, range-room-code, answerFor, ranges-code}
 
 -- a refused query answers no number
-number-free : (a : Answer) → answerCode a ≢ done → answerValues a ≡ []
+pub number-free : (a : Answer) → answerCode a ≢ done → answerValues a ≡ []
 number-free (Is x) h = absurd (h refl)
 number-free TooFar h = refl
 number-free (Refused r) h = refl
 
 -- nor an interval
-interval-free : (a : Interval) → intervalCode a ≢ done → intervalValues a ≡ []
+pub interval-free : (a : Interval) → intervalCode a ≢ done → intervalValues a ≡ []
 interval-free (Between a e) h = absurd (h refl)
 interval-free (NoInterval r) h = refl
 
 -- nor a count
-count-free : (a : Listed) → listedCode a ≢ done → listedValues a ≡ []
+pub count-free : (a : Listed) → listedCode a ≢ done → listedValues a ≡ []
 count-free (Count k) h = absurd (h refl)
 count-free (NotListed r) h = refl
 
@@ -71,16 +75,27 @@ module _ {X : Type 0} {whole lent left : List X} {r : Listed} {k : ℕ} (w : ((r
   counted : {j : ℕ} → r ≡ Count j → (j ≡ k) × (left ≡ whole)
   counted e = ⊎-elim (λ p. (let q = p .0 in cc, p .1)) (λ p. let q = p .0 in let z : _≡_ {A = ℕ} 0 1 = cc in absurd (omega arith)) w
 
--- a list is told to be too short exactly if it is
-short-list :
-    (need room k : ℕ) {r : Listed} → r ≡ pick (leb need room) (Count k) (NotListed NoRoom) → (listedCode r ≡ noRoom) ↔ (room < need)
-short-list need room k e = (
-  λ z. elim (decLe need room) [
-    | yes h ↦ let c = ap listedCode (e ∙ pick-true (Count k) (NotListed NoRoom) (le-leb need room h)) in absurd (omega arith)
-    | no h ↦ omega arith
-  ],
-  λ h. ap listedCode (e ∙ pick-false (Count k) (NotListed NoRoom) (lt-leb need room h)),
-)
+-- the code of a call for ranges
+room-code : (a : Answered) (room : ℕ) → roomAnswer a room ≡ answerFor (λ k. stride * k) room a
+room-code (refused x) room = refl
+room-code (listed l) room = refl
+
+path-ranges :
+    (kind : Kind) (t : Six) (u v : ℕ) {lent left : List ℕ} {r : Listed} → ListedAs (rangesOf kind t u v) lent left r
+    → RangesAsked t (u ∷ v ∷ []) (rangesOf kind t u v) (λ k. stride * k) (length lent) (listedCode r)
+path-ranges kind t u v {lent} p =
+    rw (p .answer ∙ room-code (rangesOf kind t u v) (length lent)) (ranges-code (λ k. stride * k) (length lent) kind t u v)
+
+-- and so with records
+record-code : (a : Answered) (room : ℕ) → recordAnswer a room ≡ answerFor (λ k. k) room a
+record-code (refused x) room = refl
+record-code (listed l) room = refl
+
+path-records :
+    (kind : Kind) (t : Six) (u v : ℕ) {lent left : List PathRange} {r : Listed} → RecordedAs (rangesOf kind t u v) lent left r
+    → RangesAsked t (u ∷ v ∷ []) (rangesOf kind t u v) (λ k. k) (length lent) (listedCode r)
+path-records kind t u v {lent} p =
+    rw (p .answer ∙ record-code (rangesOf kind t u v) (length lent)) (ranges-code (λ k. k) (length lent) kind t u v)
 
 -- the codes are as 01 says
 refusals : Refusals
@@ -89,17 +104,27 @@ refusals = record {
   try-hld = λ p. p .code;
   decomposition = λ p. p .code;
   component-lists = λ p. p .code;
-  size-first = λ t vs refused answer e. rw e;
-  vertex-next = λ t vs refused answer e f. rw (e, f);
-  ranges-room = λ {l} {lent} p. short-list (stride * length l) (length lent) (length l) (p .answer);
-  records-room = λ {l} {lent} p. short-list (length l) (length lent) (length l) (p .answer);
+  vertex-count = vertex-count-code;
+  root = root-code;
+  depth = depth-code;
+  vertex-id = vertex-id-code;
+  subtree-range = subtree-range-code;
+  distance = distance-code;
+  lca = lca-code;
+  kth-ancestor = kth-ancestor-code;
+  jump = jump-code;
+  subtree-size = subtree-size-code;
+  centroid-read = read-two-code;
+  path-ranges = path-ranges;
+  path-records = path-records;
+  range-room = range-room-code;
   no-number = number-free;
   no-interval = interval-free;
   no-count = count-free;
 }
 
 -- ranges that are refused leave the list alone
-ranges-kept : (a : Answered) {lent left : List ℕ} {r : Listed} → ListedAs a lent left r → listedCode r ≢ done → left ≡ lent
+pub ranges-kept : (a : Answered) {lent left : List ℕ} {r : Listed} → ListedAs a lent left r → listedCode r ≢ done → left ≡ lent
 ranges-kept (refused x) p h = p .list
 ranges-kept (listed l) {lent} p h = kept (written-or-not (stride * length l) (length lent) (length l) (p .answer) (p .list)) h
 
@@ -180,7 +205,6 @@ determined = record {
   component-lists = λ {os} {ts} {vs} {ds} {bs} {ss} p q. lists-call-one os ts vs ds bs ss p q;
   ranges = λ p q. (p .answer ∙ sym (q .answer), p .list ∙ sym (q .list));
   range-records = records-one;
-  queries = λ p q. p ∙ sym q;
 }
 
 -- condition 1 of the tender

@@ -5,6 +5,7 @@ pub mod Parts
 pub mod Breadth
 pub mod Fitting
 pub mod Centroids
+pub mod Tests
 pub mod First
 pub mod Second
 pub mod Third

@@ -3,34 +3,33 @@
 -- No public call has a `requires`. Its proof then says that it ends without a fault on every input and that its contract holds; so there is nothing
 -- to state of that here. The rest of the sentence is stated of the contracts. The calls that take a graph (`Validates`, `Builds`, `Decomposes`,
 -- `Lists`) have what they have in common in one contract, `GraphCall`.
-use Prim.Native.Nat.{ℕ, _+_, _*_, _<_}
+use Prim.Native.Nat.{ℕ, _+_, _*_}
 use mathlib.Core.Path.{_≡_}
-use mathlib.Core.Logic.{_≢_, _↔_}
-use mathlib.Core.Bool.{true, false}
-use mathlib.Core.List.{List, []}
+use mathlib.Core.Logic.{_≢_}
+use mathlib.Core.List.{List, [], _∷_}
 use lib.ListN.{length, drop}
 use Rattle.sums.specs.Sum.{at}
-use Rattle.answers.specs.Codes.{done, noRoom}
-use Rattle.graph.specs.Judgement.{First}
+use Rattle.answers.specs.Codes.{done, badSize}
+use Rattle.graph.specs.Judgement.{test, First}
 use Rattle.graph.specs.Lent.{vertices}
 use Rattle.graph.specs.Validation.{Sized, Fits, roomOf, Leaves, validation, Validates}
 use Rattle.tables.specs.Tables.{Six, Long}
 use Rattle.hld.specs.Build.{building, Builds}
-use Rattle.answers.specs.Asked.{vertices?}
-use Rattle.climb.specs.Asked.{sizeOf, tables?, asked}
+use Rattle.queries.specs.Queries.{vertexCount, rootOf, depthOf, vertexId, subtreeRange, kthAncestor, subtreeSize, distance as distanceOf, lca as lcaOf, jump as jumpOf}
 use Rattle.answers.specs.Answers.{answerCode, answerValues, intervalCode, intervalValues, listedCode, listedValues}
-use Rattle.answers.specs.declared.answer.Refusal.{Refusal}
-use Rattle.answers.specs.declared.answer.Refusal.the-variants.{BadSize, BadVertex}
 use Rattle.answers.specs.declared.answer.Answer.{Answer}
 use Rattle.answers.specs.declared.answer.Interval.{Interval}
 use Rattle.ranges.specs.Flat.{stride}
-use Rattle.ranges.specs.Calls.{Answered, listed}
+use Rattle.ranges.specs.Calls.{Answered, rangesOf, rangeRoom}
 use Rattle.ranges.specs.Inner.{ListedAs}
+use Rattle.ranges.specs.declared.kinds.Kind.{Kind}
 use Rattle.ranges.specs.declared.kinds.PathRange.{PathRange}
 use Rattle.answers.specs.declared.answer.Listed.{Listed}
 use Rattle.answers.specs.declared.answer.Listed.the-variants.{Count}
 use Rattle.records.specs.Records.{RecordedAs}
 use Rattle.centroid.specs.Calls.{two, TwoLong, decomposing, Decomposes, listing, Lists}
+use Rattle.centroid.specs.Reads.{readOf}
+use Rattle.demands.specs.Tests.{Lengths, Queried, QueriedTwo, QueriedEnds, RangesAsked}
 
 -- "gives the refusal that document 01 fixes": the code of the first test, in 01's order, that is not passed
 pub record Refusals : Type 1 where
@@ -41,17 +40,28 @@ pub record Refusals : Type 1 where
   pub component-lists :
       {os ts vs ds bs ss w vs′ ds′ bs′ ss′ w′ : List ℕ} {c : ℕ} → Lists os ts vs ds bs ss w vs′ ds′ bs′ ss′ w′ c
       → First (listing os ts vs ds bs ss (length w)) c
-  -- "A query tests 1, then 4": each query, with the vertices vs as arguments, is `asked t vs ..`
-  pub size-first : {X : Type 0} (t : Six) (vs : List ℕ) (refused : Refusal → X) (answer : X) → tables? t ≡ false → asked t vs refused answer ≡ refused BadSize
-  pub vertex-next :
-      {X : Type 0} (t : Six) (vs : List ℕ) (refused : Refusal → X) (answer : X) → tables? t ≡ true → vertices? (sizeOf t) vs ≡ false
-      → asked t vs refused answer ≡ refused BadVertex
-  -- "2 for lists is last": given to ranges that were found exactly if the list is too short for them
-  pub ranges-room :
-      {l : List PathRange} {lent left : List ℕ} {r : Listed} → ListedAs (listed l) lent left r
-      → (listedCode r ≡ noRoom) ↔ (length lent < stride * length l)
-  pub records-room :
-      {l lent left : List PathRange} {r : Listed} → RecordedAs (listed l) lent left r → (listedCode r ≡ noRoom) ↔ (length lent < length l)
+  -- the queries: the definition of each, which is its contract, with its vertices
+  pub vertex-count : (t : Six) → Queried t [] (vertexCount t)
+  pub root : (t : Six) → Queried t [] (rootOf t)
+  pub depth : (t : Six) (v : ℕ) → Queried t (v ∷ []) (depthOf t v)
+  pub vertex-id : (t : Six) (v : ℕ) → Queried t (v ∷ []) (vertexId t v)
+  pub subtree-range : (t : Six) (v : ℕ) → QueriedEnds t (v ∷ []) (subtreeRange t v)
+  pub distance : (t : Six) (u v : ℕ) → Queried t (u ∷ v ∷ []) (distanceOf t u v)
+  pub lca : (t : Six) (r u v : ℕ) → Queried t (r ∷ u ∷ v ∷ []) (lcaOf t r u v)
+  pub kth-ancestor : (t : Six) (v k : ℕ) → Queried t (v ∷ []) (kthAncestor t v k)
+  pub jump : (t : Six) (u v k : ℕ) → Queried t (u ∷ v ∷ []) (jumpOf t u v k)
+  pub subtree-size : (t : Six) (r v : ℕ) → Queried t (r ∷ v ∷ []) (subtreeSize t r v)
+  -- the reads of a decomposition's two tables
+  pub centroid-read : (table other : List ℕ) (v : ℕ) → QueriedTwo table other v (readOf table other v)
+  -- the calls for ranges of each kind, into plain numbers and into records
+  pub path-ranges :
+      (kind : Kind) (t : Six) (u v : ℕ) {lent left : List ℕ} {r : Listed} → ListedAs (rangesOf kind t u v) lent left r
+      → RangesAsked t (u ∷ v ∷ []) (rangesOf kind t u v) (λ k. stride * k) (length lent) (listedCode r)
+  pub path-records :
+      (kind : Kind) (t : Six) (u v : ℕ) {lent left : List PathRange} {r : Listed} → RecordedAs (rangesOf kind t u v) lent left r
+      → RangesAsked t (u ∷ v ∷ []) (rangesOf kind t u v) (λ k. k) (length lent) (listedCode r)
+  -- "for n from 1 to 32,768, else refusal 1"
+  pub range-room : (n : ℕ) → First (test badSize (Lengths n []) ∷ []) (answerCode (rangeRoom n))
   -- "A refused call returns its code and no other number."
   pub no-number : (a : Answer) → answerCode a ≢ done → answerValues a ≡ []
   pub no-interval : (a : Interval) → intervalCode a ≢ done → intervalValues a ≡ []
@@ -91,7 +101,9 @@ pub record WorkLeft : Type 0 where
   pub component-lists :
       {os ts vs ds bs ss w vs′ ds′ bs′ ss′ w′ : List ℕ} {c : ℕ} → Lists os ts vs ds bs ss w vs′ ds′ bs′ ss′ w′ c → Leaves (Sized os ts) (roomOf os ts) w w′
 
--- 01, "How much a contract must tie down": "That two results allowed by it coincide is proved".
+-- 01, "How much a contract must tie down": "That two results allowed by it coincide is proved". The other calls (the ten queries, the two reads of a
+-- decomposition, `neighbours`, `range_room`, `rule_part`) write nothing, and their contracts are equations: the answer is the definition of the call at
+-- its arguments.
 pub record Determined : Type 1 where
   pub validate-tree :
       {os ts w w₁ w₂ : List ℕ} {root c₁ c₂ : ℕ} → Validates os ts root w w₁ c₁ → Validates os ts root w w₂ c₂
@@ -113,9 +125,6 @@ pub record Determined : Type 1 where
   pub range-records :
       {a : Answered} {lent left₁ left₂ : List PathRange} {r₁ r₂ : Listed} → RecordedAs a lent left₁ r₁ → RecordedAs a lent left₂ r₂
       → (r₁ ≡ r₂) × (left₁ ≡ left₂)
-  -- the other calls write nothing, and their contracts are equations: the answer is the definition of the call at its arguments (the ten queries, the
-  -- two reads of a decomposition, `neighbours`, `range_room`, `rule_part`)
-  pub queries : {X : Type 0} {answer r₁ r₂ : X} → r₁ ≡ answer → r₂ ≡ answer → r₁ ≡ r₂
 
 pub record FirstDemand : Type 1 where
   pub refusals : Refusals

@@ -1,3 +1,4 @@
+pub mod Tests
 pub mod First
 pub mod Numbers
 pub mod Centroids
