@@ -9,3 +9,4 @@ pub mod Tests
 pub mod First
 pub mod Second
 pub mod Third
+pub mod InC

@@ -28,12 +28,13 @@ use Rattle.pathlaws.proofs.SimplePaths.{distance-simple, jump-simple, jump-simp
 use Rattle.pathlaws.proofs.SubtreeSizes.{through-on}
 use Rattle.pathlaws.proofs.Refusals.{never-nine}
 use Rattle.pathlaws.proofs.ReRooted.{lca-re-rooted}
-use Rattle.readings.proofs.SimpleReadings.{edges-simple, both-simple, simple-last}
-use Rattle.ranges.specs.declared.kinds.Kind.the-variants.{Edges, Both}
+use Rattle.readings.proofs.SimpleReadings.{vertices-simple, edges-simple, both-simple, simple-last}
+use Rattle.ranges.specs.declared.kinds.Kind.the-variants.{Vertices, Edges, Both}
 use Rattle.paths.proofs.Hung.{tree-hangs}
 use Rattle.answers.proofs.Bounds.{vertices-parents}
-use Rattle.demands.specs.Numbers.{OnPath, PicksSubtree, Entries, Answers}
-use Rattle.demands.proofs.Found.{ranges-of, ranges-there}
+use Rattle.demands.specs.Numbers.{OnPath, PicksSubtree, Entries}
+use Rattle.demands.specs.Answers.{inRattle, Answers, NoNine}
+use Rattle.demands.proofs.Found.{ranges-along, ranges-no-nine}
 
 -- in a tree that hangs from r, the ancestors of v are the vertices on its simple path to r
 pub on-anc :
@@ -115,8 +116,8 @@ module _ {n root : ℕ} {A : ℕ → List ℕ} {t : Six} (G : Given n A root t (
       ∙ ap Is (sym (top-unique (S .rooted) m hu hv (on-anc A S m hu .0 p) (on-anc A S m hv .0 q)
       (λ x a b. on-anc A S x hm .0 (deepest x (on-anc A S x hu .1 a) (on-anc A S x hv .1 b)))))
 
-  -- the answers to queries
-  pub answers : Tree n A → Answers n A root t
+  -- the answers of the calls
+  pub answers : Tree n A → Answers inRattle n A root t
   answers tree = record {
     vertex-count = vertex-count G;
     root-answer = root-answer G;
@@ -130,11 +131,11 @@ module _ {n root : ℕ} {A : ℕ → List ℕ} {t : Six} (G : Given n A root t (
     no-jump = λ k s h. jump-simple-too-far G k s h;
     lca = lca-deepest tree;
     subtree-size = λ hr hv test f. subtree-size-simple G hr hv test f;
-    edge-ranges = λ s.
-        let f = ranges-there G Edges (s .below .0) (simple-last s) in
-        (f .0, f .1, edges-simple G s (f .0) (ranges-of G Edges (s .below .0) (simple-last s) (f .1)));
-    both-ranges = λ s.
-        let f = ranges-there G Both (s .below .0) (simple-last s) in
-        (f .0, f .1, both-simple G s (f .0) (ranges-of G Both (s .below .0) (simple-last s) (f .1)));
-    never-nine = never-nine G;
+    vertex-ranges = λ s. let f = ranges-along G Vertices s in (f .0, f .1, vertices-simple G s (f .0) (f .2));
+    edge-ranges = λ s. let f = ranges-along G Edges s in (f .0, f .1, edges-simple G s (f .0) (f .2));
+    both-ranges = λ s. let f = ranges-along G Both s in (f .0, f .1, both-simple G s (f .0) (f .2));
   }
+
+  -- none is the refusal 9
+  pub no-nine : NoNine t
+  no-nine = record { queries = never-nine G; ranges = ranges-no-nine G }

@@ -15,7 +15,7 @@ use Rattle.hld.specs.Build.{building, Builds}
 use Rattle.centroid.specs.Calls.{decomposing, Fitting, listing}
 use Rattle.demands.specs.Second.{InRange, Accepted, SecondDemand}
 use Rattle.demands.proofs.Passed.{build-given}
-use Rattle.demands.proofs.Numbers.{entries, answers}
+use Rattle.demands.proofs.Numbers.{entries, answers, no-nine}
 use Rattle.demands.proofs.Fitting.{lists-room}
 use Rattle.demands.proofs.Centroids.{centroids, component-lists}
 
@@ -81,6 +81,7 @@ second-demand = record {
   accepted = accepted;
   numbers = λ b. entries (build-given b);
   answers = λ b. answers (build-given b) (build-tree b);
+  no-nine = λ b. no-nine (build-given b);
   centroids = centroids;
   component-lists = component-lists;
 }

@@ -1,4 +1,4 @@
--- What condition 2 asks of the tables of a build and of the answers to queries on them: "every number, ancestor, path .. right".
+-- What condition 2 asks of the tables of a build: "every number .. right".
 use Prim.Native.Nat.{ℕ, _+_, _≤_, _<_}
 use mathlib.Core.Path.{_≡_}
 use mathlib.Core.Logic.{_↔_}
@@ -10,14 +10,6 @@ use Rattle.paths.specs.Walk.{In, NoDup, Stands, Simple}
 use Rattle.answers.specs.Limits.{noParent}
 use Rattle.numbering.specs.Numbering.{Numbered, Chained}
 use Rattle.tables.specs.Tables.{Six, Long, kidsByRuleOne}
-use Rattle.queries.specs.Queries.{vertexCount, rootOf, depthOf, vertexId, subtreeRange, kthAncestor, subtreeSize, distance as distanceOf, lca as lcaOf, jump as jumpOf}
-use Rattle.answers.specs.declared.answer.Answer.the-variants.{Is, TooFar, Refused}
-use Rattle.answers.specs.declared.answer.Interval.the-variants.{Between}
-use Rattle.pathlaws.specs.NeverNine.{NeverNine}
-use Rattle.ranges.specs.Calls.{listed, rangesOf}
-use Rattle.ranges.specs.Readings.{reading, edgeNumbers, bothNumbers}
-use Rattle.ranges.specs.declared.kinds.PathRange.{PathRange}
-use Rattle.ranges.specs.declared.kinds.Kind.the-variants.{Edges, Both}
 
 -- m is on the simple path from u to v, in the tree of n vertices with the lists A
 abbrev pub OnPath : ℕ → (ℕ → List ℕ) → (u v m : ℕ) → Type 0
@@ -54,34 +46,3 @@ pub record Entries (n : ℕ) (A : ℕ → List ℕ) (root : ℕ) (t : Six) : Typ
   -- "The subtree of v has ids id(v) up to id(v)+size(v), the end excluded."
   pub subtree :
       {v x : ℕ} → v < n → x < n → OnPath n A x root v ↔ ((at (t .id) v ≤ at (t .id) x) × (at (t .id) x < at (t .id) v + at (t .size) v))
-
--- the answers to queries on them
-pub record Answers (n : ℕ) (A : ℕ → List ℕ) (root : ℕ) (t : Six) : Type 0 where
-  pub vertex-count : vertexCount t ≡ Is n
-  pub root-answer : rootOf t ≡ Is root
-  pub depth : {v : ℕ} {P : List ℕ} → Simple n (Stands A) v root P → depthOf t v ≡ Is (length P)
-  pub vertex-id : {v : ℕ} → v < n → vertexId t v ≡ Is (at (t .id) v)
-  pub subtree-range : {v : ℕ} → v < n → subtreeRange t v ≡ Between (at (t .id) v) (at (t .id) v + at (t .size) v)
-  -- "`distance`, `kth_ancestor`, `jump`: by the simple path."
-  pub distance : {u v : ℕ} {P : List ℕ} → Simple n (Stands A) u v P → distanceOf t u v ≡ Is (length P)
-  pub kth-ancestor : (k : ℕ) {v : ℕ} {P : List ℕ} → Simple n (Stands A) v root P → k ≤ length P → kthAncestor t v k ≡ Is (at (v ∷ P) k)
-  pub jump : (k : ℕ) {u v : ℕ} {P : List ℕ} → Simple n (Stands A) u v P → k ≤ length P → jumpOf t u v k ≡ Is (at (u ∷ P) k)
-  -- "`kth_ancestor` is refused exactly if no k-th ancestor exists; `jump` exactly if k exceeds the distance."
-  pub no-ancestor : (k : ℕ) {v : ℕ} {P : List ℕ} → Simple n (Stands A) v root P → length P < k → kthAncestor t v k ≡ TooFar
-  pub no-jump : (k : ℕ) {u v : ℕ} {P : List ℕ} → Simple n (Stands A) u v P → length P < k → jumpOf t u v k ≡ TooFar
-  -- "`lca(r,u,v)` and `subtree_size(r,v)`: as if r were the root."
-  pub lca :
-      {r u v : ℕ} (m : ℕ) → OnPath n A u r m → OnPath n A v r m
-      → ((x : ℕ) → OnPath n A u r x → OnPath n A v r x → OnPath n A m r x)
-      → lcaOf t r u v ≡ Is m
-  pub subtree-size : {r v : ℕ} → r < n → v < n → (test : ℕ → Bool) → PicksSubtree n A r v test → subtreeSize t r v ≡ Is (howMany n test)
-  -- "Edge ranges": they read the number of each edge of the simple path in order, that of its child
-  pub edge-ranges :
-      {u v : ℕ} {P : List ℕ} → Simple n (Stands A) u v P
-      → (l : List PathRange) × (rangesOf Edges t u v ≡ listed l) × (reading l ≡ edgeNumbers (at (t .depth)) (at (t .id)) u P)
-  -- "Vertex and edge ranges": they read the doubled numbers of both in turn
-  pub both-ranges :
-      {u v : ℕ} {P : List ℕ} → Simple n (Stands A) u v P
-      → (l : List PathRange) × (rangesOf Both t u v ≡ listed l) × (reading l ≡ bothNumbers (at (t .depth)) (at (t .id)) u P)
-  -- "Tables that a build wrote never give 9."
-  pub never-nine : NeverNine t

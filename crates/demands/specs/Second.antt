@@ -14,7 +14,8 @@ use Rattle.graph.specs.Validation.{Sized, roomOf, Validates}
 use Rattle.tables.specs.Tables.{Six, Long}
 use Rattle.hld.specs.Build.{Builds}
 use Rattle.centroid.specs.Calls.{Decomposes, Fitting, Lists}
-use Rattle.demands.specs.Numbers.{Entries, Answers}
+use Rattle.demands.specs.Numbers.{Entries}
+use Rattle.demands.specs.Answers.{inRattle, Answers, NoNine}
 use Rattle.demands.specs.Centroids.{Centroids, ComponentLists}
 
 -- "with in-range numbers, within 01's limits": what 01 asks of lists and root before it looks at the graph, with work of `room` entries
@@ -55,7 +56,9 @@ pub record SecondDemand : Type 0 where
       {os ts w w′ : List ℕ} {root : ℕ} {t t′ : Six} → Builds os ts root t w t′ w′ done → Entries (vertices os) (listOf os ts) root t′
   -- "ancestor, path"
   pub answers :
-      {os ts w w′ : List ℕ} {root : ℕ} {t t′ : Six} → Builds os ts root t w t′ w′ done → Answers (vertices os) (listOf os ts) root t′
+      {os ts w w′ : List ℕ} {root : ℕ} {t t′ : Six} → Builds os ts root t w t′ w′ done → Answers inRattle (vertices os) (listOf os ts) root t′
+  -- "Tables that a build wrote never give 9."
+  pub no-nine : {os ts w w′ : List ℕ} {root : ℕ} {t t′ : Six} → Builds os ts root t w t′ w′ done → NoNine t′
   -- "and centroid right"
   pub centroids :
       {os ts up level w up′ level′ w′ : List ℕ} → Decomposes os ts up level w up′ level′ w′ done
