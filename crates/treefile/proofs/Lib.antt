@@ -9,3 +9,4 @@ pub mod Asking
 pub mod Trees
 pub mod Places
 pub mod Buffers
+pub mod Inputs

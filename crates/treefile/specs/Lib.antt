@@ -5,3 +5,4 @@ pub mod Writing
 pub mod Flat
 pub mod Parsing
 pub mod Sections
+pub mod Inputs

@@ -3,8 +3,8 @@ use Prim.Native.Nat.{ℕ, _-_, _≤_, _<_}
 use native.Mathlib.Omega.{arith}
 use native.Mathlib.Decide.{decLe}
 use mathlib.Core.Path.{_≡_, refl, sym, ap, ap₂, _∙_}
-use mathlib.Core.Logic.{by-cases}
-use mathlib.Core.List.{List, [], _∷_, _++_}
+use mathlib.Core.Logic.{by-cases, _↔_}
+use mathlib.Core.List.{List, [], _∷_, _++_, head-eq-of-cons-eq}
 use lib.ListN.{length, drop, length-append}
 use Rattle.sums.proofs.Sums.{equal-or-not}
 use Rattle.answers.specs.Codes.{done}
@@ -16,7 +16,9 @@ use Rattle.hld.proofs.Meaning.{tables-one}
 use Rattle.treefile.specs.File.{TreeFile, Parsed, badFile, file, parseFile}
 use Rattle.treefile.specs.Report.{decimal, newline, fields, treeWord, treeLine, queryLines, badReport, fileReport, report}
 use Rattle.treefile.specs.Parsing.{front}
+use Rattle.treefile.specs.Inputs.{Holds}
 use Rattle.treefile.proofs.Report.{tree-refused, tree-built}
+use Rattle.treefile.proofs.Inputs.{holds-read, none-bad}
 use Rattle.treereport.specs.Reports.{reportRoom, treeTests, Judged, Written, Reports}
 use Rattle.treereport.proofs.Files.{long-bad}
 use Rattle.treereport.proofs.Telling.{refused-report, built-report}
@@ -72,6 +74,17 @@ module _ (bytes : List ℕ) {out out′ : List ℕ} {r : ℕ} (w : Reports bytes
   -- "BadFile, printed as `file 11` alone"
   pub report-bad : parseFile bytes ≡ badFile → Begins out out′ r badReport
   report-bad e = as-text badFile badReport e refl
+
+  -- and that exactly for the inputs that 01 names: those that hold no file
+  pub report-eleven : Begins out out′ r badReport ↔ ((f : TreeFile) → Holds bytes f → ⊥)
+  report-eleven = (
+    λ b f h.
+        let text : List ℕ = fileReport (w .whole room .code) (w .whole room .tables) f in
+        let other : out′ ≡ front text out = as-text (file f) text (holds-read bytes f h) refl .0 in
+        let letters : _≡_ {A = ℕ} 102 116 = head-eq-of-cons-eq (sym (b .0) ∙ other) in
+        absurd (omega arith),
+    λ none. report-bad (none-bad bytes none),
+  )
 
   -- more bytes than the largest file has are a bad file, whatever they are
   pub report-long : 6_668 < length bytes → Begins out out′ r badReport
