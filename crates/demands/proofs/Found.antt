@@ -10,17 +10,13 @@ use Rattle.tables.specs.Tables.{Six}
 use Rattle.pathlaws.specs.Given.{Given}
 use Rattle.climb.specs.Asked.{sizeOf}
 use Rattle.pathlaws.proofs.Standing.{answered, asked-or-refused}
-use Rattle.ranges.specs.Ranges.{Found, lost, found, pathRanges}
+use Rattle.ranges.specs.Ranges.{found, pathRanges}
 use Rattle.ranges.specs.Calls.{refused, listed, fromFound, rangesOf}
 use Rattle.ranges.specs.declared.kinds.PathRange.{PathRange}
 use Rattle.ranges.specs.declared.kinds.Kind.{Kind}
+use Rattle.ranges.proofs.Few.{answer-found}
 use Rattle.readings.proofs.Found.{ranges-found}
 use Rattle.readings.proofs.SimpleReadings.{simple-last}
-
--- an answer of ranges is one of a climb
-answer-found : (f : Found) (l : List PathRange) → fromFound f ≡ listed l → f ≡ found l
-answer-found lost l e = let z : _≡_ {A = ℕ} 0 1 = cc in absurd (omega arith)
-answer-found (found m) l e = cc
 
 module _ {n root : ℕ} {A : ℕ → List ℕ} {t : Six} {kids : ℕ → List ℕ} (G : Given n A root t kids) where
   -- what is asked between two vertices is what the climb finds

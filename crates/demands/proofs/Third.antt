@@ -20,7 +20,7 @@ use Rattle.pathlaws.proofs.Lca.{lca-common, lca-any-order}
 use Rattle.pathlaws.proofs.SimplePaths.{lca-simple}
 use Rattle.ranges.specs.Flat.{stride, flat}
 use Rattle.ranges.specs.Calls.{Answered, rangesOf, rangeRoom}
-use Rattle.ranges.specs.Inner.{ListedAs}
+use Rattle.ranges.specs.Calls.{ListedAs}
 use Rattle.ranges.specs.declared.kinds.PathRange.{PathRange}
 use Rattle.ranges.specs.declared.kinds.Kind.the-variants.{Vertices}
 use Rattle.answers.specs.declared.answer.Listed.{Listed}

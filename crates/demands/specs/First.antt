@@ -21,7 +21,7 @@ use Rattle.answers.specs.declared.answer.Answer.{Answer}
 use Rattle.answers.specs.declared.answer.Interval.{Interval}
 use Rattle.ranges.specs.Flat.{stride}
 use Rattle.ranges.specs.Calls.{Answered, rangesOf, rangeRoom}
-use Rattle.ranges.specs.Inner.{ListedAs}
+use Rattle.ranges.specs.Calls.{ListedAs}
 use Rattle.ranges.specs.declared.kinds.Kind.{Kind}
 use Rattle.ranges.specs.declared.kinds.PathRange.{PathRange}
 use Rattle.answers.specs.declared.answer.Listed.{Listed}

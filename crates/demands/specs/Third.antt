@@ -17,7 +17,7 @@ use Rattle.queries.specs.Queries.{lca}
 use Rattle.answers.specs.declared.answer.Answer.the-variants.{Is}
 use Rattle.ranges.specs.Flat.{stride, flat}
 use Rattle.ranges.specs.Calls.{listed, rangesOf, rangeRoom}
-use Rattle.ranges.specs.Inner.{ListedAs}
+use Rattle.ranges.specs.Calls.{ListedAs}
 use Rattle.ranges.specs.Readings.{reading}
 use Rattle.ranges.specs.declared.kinds.PathRange.{PathRange}
 use Rattle.ranges.specs.declared.kinds.Kind.the-variants.{Vertices}

@@ -11,7 +11,7 @@ use Rattle.tables.specs.Tables.{Six}
 use Rattle.queries.specs.Queries.{distance, lca, kthAncestor, jump, subtreeSize}
 use Rattle.ranges.specs.Flat.{stride}
 use Rattle.ranges.specs.Calls.{Answered, refused, listed, rangesOf}
-use Rattle.ranges.specs.Inner.{ListedAs}
+use Rattle.ranges.specs.Calls.{ListedAs}
 use Rattle.ranges.specs.declared.kinds.Kind.{Kind}
 use Rattle.ranges.specs.declared.kinds.Kind.the-variants.{Vertices, Edges, Both}
 use Rattle.answers.specs.declared.answer.Listed.{Listed}

@@ -3,10 +3,6 @@ pub mod Slots
 pub mod ReadBack
 pub mod Ends
 pub mod Looks
-pub mod Hung
 pub mod Numbered
-pub mod Writing
-pub mod Listing
 pub mod Few
-pub mod Valued
 pub mod Parted

@@ -1,5 +1,6 @@
 -- What the calls for ranges answer, and what they leave in the lent list.
 use Prim.Native.Nat.{ℕ, _+_, _*_}
+use mathlib.Core.Path.{_≡_}
 use mathlib.Core.List.{List, [], _∷_, _++_}
 use lib.Dec.{leb}
 use lib.ListN.{length, drop}
@@ -40,6 +41,11 @@ roomAnswer (listed l) room = pick (leb (stride * length l) room) (Count (length 
 abbrev pub roomList : Answered → List ℕ → List ℕ
 roomList (refused x) lent = lent
 roomList (listed l) lent = pick (leb (stride * length l) (length lent)) (flat l ++ drop (stride * length l) lent) lent
+
+-- what a call answers and leaves in the list that it was lent
+pub record ListedAs (a : Answered) (lent left : List ℕ) (r : Listed) : Type 0 where
+  pub answer : r ≡ roomAnswer a (length lent)
+  pub list : left ≡ roomList a lent
 
 -- "Range room: 2·floor(log2 n)+1 is always enough, and a call returns that number for n from 1 to 32,768, else refusal 1."
 abbrev pub rangeRoom : ℕ → Answer

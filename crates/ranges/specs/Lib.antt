@@ -4,4 +4,3 @@ pub mod Readings
 pub mod Parts
 pub mod Calls
 pub mod Inner
-pub mod Values

@@ -16,7 +16,7 @@ pub enum Last {
 }
 
 // The piece of the chain that the u side leaves: from the chain's head up to where the side stands, read high to low.
-pub(crate) fn u_piece(climb: Climb) -> Piece
+pub fn u_piece(climb: Climb) -> Piece
     requires { ⌜ Ends climb ⌝ }
     ensures { λ piece. ⌜ piece ≡ uPiece (climb .u) ⌝ }
 {
@@ -24,7 +24,7 @@ pub(crate) fn u_piece(climb: Climb) -> Piece
 }
 
 // The piece of the chain that the v side leaves, read low to high.
-pub(crate) fn v_piece(climb: Climb) -> Piece
+pub fn v_piece(climb: Climb) -> Piece
     requires { ⌜ Ends climb ⌝ }
     ensures { λ piece. ⌜ piece ≡ vPiece (climb .v) ⌝ }
 {
@@ -32,7 +32,7 @@ pub(crate) fn v_piece(climb: Climb) -> Piece
 }
 
 // The piece of the last chain of a climb: on the u side where u lies below v, else on the v side.
-pub(crate) fn last_piece(climb: Climb) -> Piece
+pub fn last_piece(climb: Climb) -> Piece
     requires { ⌜ Ends climb ⌝ }
     ensures { λ piece. ⌜ piece ≡ lastPiece (climb .u) (climb .v) ⌝ }
 {
@@ -57,7 +57,7 @@ fn range_of(start: usize, end: usize, piece: Piece) -> PathRange
 }
 
 // The range of a chain that is left.
-pub(crate) fn chain_range(kind: Kind, piece: Piece) -> PathRange
+pub fn chain_range(kind: Kind, piece: Piece) -> PathRange
     requires { ⌜ Chain piece ⌝ }
     ensures { λ range. ⌜ range ≡ chainRange kind piece ⌝ }
 {
@@ -91,7 +91,7 @@ fn last_range(kind: Kind, piece: Piece) -> Last
 }
 
 // The range of the last chain of a climb.
-pub(crate) fn last_chain(kind: Kind, climb: Climb) -> Last
+pub fn last_chain(kind: Kind, climb: Climb) -> Last
     requires { ⌜ Ends climb ⌝ }
     ensures { λ last. ⌜ lastList last ≡ lastChain kind climb ⌝ }
 {
@@ -99,7 +99,7 @@ pub(crate) fn last_chain(kind: Kind, climb: Climb) -> Last
 }
 
 // How many ranges the last chain has.
-pub(crate) fn last_count(last: Last) -> usize
+pub fn last_count(last: Last) -> usize
     ensures { λ r. ⌜ r ≡ length (lastList last) ⌝ }
 {
     match last {

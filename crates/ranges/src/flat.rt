@@ -30,7 +30,7 @@ fn direction_of(code: u32) -> Direction
 }
 
 // Writes a range into a slot.
-pub(crate) fn write_range(ranges: &mut [u32], slot: usize, range: PathRange)
+pub fn write_range(ranges: &mut [u32], slot: usize, range: PathRange)
     requires { ⌜ Slot (now ranges) slot range ⌝ }
     ensures { λ r. ⌜ now (ranges .exit) ≡ written (now (ranges .entry)) slot (range ∷ []) ⌝ }
 {

@@ -1,9 +1,6 @@
-// The path from u to v as ranges of numbers, on any lent tables; range room; rule parts.
+// The path from u to v as ranges of numbers: the range of each chain, ranges in a plain list, range room, rule parts.
 pub mod chains;
 pub mod flat;
 pub mod kinds;
-pub mod lists;
 pub mod parts;
 pub mod room;
-pub mod values;
-pub mod writes;

@@ -11,10 +11,10 @@ use Rattle.answers.proofs.Choices.{pick-true, pick-false}
 use Rattle.ranges.specs.declared.kinds.PathRange.{PathRange}
 use Rattle.answers.specs.declared.answer.Listed.{Listed}
 use Rattle.answers.specs.declared.answer.Listed.the-variants.{Count, Refused}
-use Rattle.ranges.specs.declared.values.PathRanges.{PathRanges}
+use Rattle.rangelists.specs.declared.values.PathRanges.{PathRanges}
 use Rattle.ranges.specs.Flat.{stride, flat}
 use Rattle.ranges.specs.Calls.{Answered, refused, listed}
-use Rattle.ranges.specs.Values.{blank, ByValue}
+use Rattle.rangelists.specs.Values.{blank, ByValue}
 use Rattle.answers.specs.Limits.{mostRanges}
 use Rattle.records.specs.Inner.{copied, plan, planOf, Planned}
 use Rattle.records.proofs.Copying.{copied-all}

@@ -1,11 +1,11 @@
 // What is to be written for a path. The core's numbers, in an array that every path fits into, are handed on by value.
 use answers::answer::Listed;
 use answers::answer::Refusal;
+use rangelists::values::MOST_NUMBERS;
+use rangelists::values::PathRanges;
+use rangelists::values::ranges_by_value;
 use ranges::kinds::Kind;
 use ranges::kinds::PathRange;
-use ranges::values::MOST_NUMBERS;
-use ranges::values::PathRanges;
-use ranges::values::ranges_by_value;
 ghost use mathlib.Core.Path.{_≡_};
 ghost use Prim.Native.Nat.{_<_};
 ghost use Rattle.answers.specs.Limits.{mostRanges};

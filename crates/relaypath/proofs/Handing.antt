@@ -5,7 +5,7 @@ use mathlib.Core.List.{List}
 use Rattle.answers.specs.declared.answer.Answer.{Answer}
 use Rattle.answers.specs.declared.answer.Interval.{Interval}
 use Rattle.ranges.specs.Calls.{Answered}
-use Rattle.ranges.specs.Inner.{ListedAs}
+use Rattle.ranges.specs.Calls.{ListedAs}
 use Rattle.answers.specs.declared.answer.Listed.{Listed}
 use Rattle.relaypath.specs.Handed.{Handed, HandedCount, HandedEnds}
 use Rattle.relaypath.specs.Listing.{HandedList}

@@ -23,7 +23,7 @@ pub extern "C" fn relaypath_vertex_path_ranges(
 ) -> u32
     ensures { λ code. ⌜ HandedList (rangesOf Vertices (lent parent depth head id order size) u v) (now (ranges .entry)) (now (ranges .exit)) (now (count .entry)) (now (count .exit)) code ⌝ }
 {
-    let found = ranges::lists::vertex_path_ranges(
+    let found = rangelists::lists::vertex_path_ranges(
         parent,
         depth,
         head,
@@ -53,7 +53,17 @@ pub extern "C" fn relaypath_edge_path_ranges(
 ) -> u32
     ensures { λ code. ⌜ HandedList (rangesOf Edges (lent parent depth head id order size) u v) (now (ranges .entry)) (now (ranges .exit)) (now (count .entry)) (now (count .exit)) code ⌝ }
 {
-    let found = ranges::lists::edge_path_ranges(parent, depth, head, id, order, size, u, v, ranges);
+    let found = rangelists::lists::edge_path_ranges(
+        parent,
+        depth,
+        head,
+        id,
+        order,
+        size,
+        u,
+        v,
+        ranges,
+    );
     hand_count(found, count)
 }
 
@@ -73,7 +83,7 @@ pub extern "C" fn relaypath_vertex_edge_path_ranges(
 ) -> u32
     ensures { λ code. ⌜ HandedList (rangesOf Both (lent parent depth head id order size) u v) (now (ranges .entry)) (now (ranges .exit)) (now (count .entry)) (now (count .exit)) code ⌝ }
 {
-    let found = ranges::lists::vertex_edge_path_ranges(
+    let found = rangelists::lists::vertex_edge_path_ranges(
         parent,
         depth,
         head,

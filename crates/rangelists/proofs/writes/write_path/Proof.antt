@@ -9,11 +9,11 @@ use lib.ListN.{length}
 use Rattle.numbering.specs.Log.{log2}
 use Rattle.tables.specs.Tables.{six}
 use Rattle.climb.proofs.Going.{chainsLeft, u-word, v-word, going-u-less, going-v-less}
 use Rattle.ranges.specs.Ranges.{chainRange}
 use Rattle.ranges.specs.Inner.{Chain}
-use Rattle.ranges.proofs.Writing.{Writing, stands-u, stands-v, writing-start, u-never, u-chain, u-slot, writing-u, v-never, v-room, v-chain, v-slot, writing-v, writing-ends, last-slot, writing-done}
-use Rattle.ranges.proofs.writes.write_path.Statement.{statement}
-use Rattle.ranges.proofs.writes.write_path.Tie as tie
+use Rattle.rangelists.proofs.Writing.{Writing, stands-u, stands-v, writing-start, u-never, u-chain, u-slot, writing-u, v-never, v-room, v-chain, v-slot, writing-v, writing-ends, last-slot, writing-done}
+use Rattle.rangelists.proofs.writes.write_path.Statement.{statement}
+use Rattle.rangelists.proofs.writes.write_path.Tie as tie
 
 abbrev Inv-loop : tie.InvT-loop
 Inv-loop kind parent depth head id u v count ranges₀ climb₀ ranges climb = (o s : List ℕ) → Writing kind (six parent depth head id o s) u v count ranges₀ climb ranges

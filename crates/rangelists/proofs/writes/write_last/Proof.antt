@@ -1,10 +1,10 @@
 -- `writes::write_last` meets its contract.
 use borrow.Author.Needs.{needs}
 use mathlib.Core.Path.{sym, ap, _∙_}
 use Rattle.ranges.specs.declared.chains.Last.{Last}
 use Rattle.ranges.specs.Inner.{lastList, written}
-use Rattle.ranges.proofs.writes.write_last.Statement.{statement}
-use Rattle.ranges.proofs.writes.write_last.Tie as tie
+use Rattle.rangelists.proofs.writes.write_last.Statement.{statement}
+use Rattle.rangelists.proofs.writes.write_last.Tie as tie
 
 enum-known-last : tie.Need-enum-known-last
 enum-known-last c = search needs

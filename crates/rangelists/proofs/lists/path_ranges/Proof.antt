@@ -7,9 +7,9 @@ use lib.ListN.{length}
 use Rattle.tables.specs.Tables.{Six, six}
 use Rattle.climb.specs.Asked.{asked}
 use Rattle.answers.specs.declared.asked.Verdict.the-variants.{Ready, Refused}
-use Rattle.ranges.proofs.Listing.{last-few, met-known, met-ends, met-few, ranges-refused, ready-some, ready-small, ready-climbs, ranges-lost, ranges-short, ranges-written}
-use Rattle.ranges.proofs.lists.path_ranges.Statement.{statement}
-use Rattle.ranges.proofs.lists.path_ranges.Tie as tie
+use Rattle.rangelists.proofs.Listing.{last-few, met-known, met-ends, met-few, ranges-refused, ready-some, ready-small, ready-climbs, ranges-lost, ranges-short, ranges-written}
+use Rattle.rangelists.proofs.lists.path_ranges.Statement.{statement}
+use Rattle.rangelists.proofs.lists.path_ranges.Tie as tie
 
 -- the six tables, as they were lent
 abbrev tables : tie.Start → Six

@@ -9,14 +9,14 @@ use Rattle.answers.specs.Limits.{mostRanges}
 use Rattle.answers.specs.declared.answer.Listed.{Listed}
 use Rattle.answers.specs.declared.answer.Listed.the-variants.{Count, Refused}
 use Rattle.tables.specs.Tables.{Six}
 use Rattle.ranges.specs.declared.kinds.PathRange.{PathRange}
 use Rattle.ranges.specs.declared.kinds.Kind.{Kind}
-use Rattle.ranges.specs.declared.values.PathRanges.{PathRanges}
+use Rattle.rangelists.specs.declared.values.PathRanges.{PathRanges}
 use Rattle.ranges.specs.Flat.{stride}
 use Rattle.ranges.specs.Calls.{Answered, refused, listed, rangesOf}
-use Rattle.ranges.specs.Inner.{ListedAs}
-use Rattle.ranges.specs.Values.{blank, ByValue}
+use Rattle.ranges.specs.Calls.{ListedAs}
+use Rattle.rangelists.specs.Values.{blank, ByValue}
 use Rattle.ranges.proofs.Few.{ranges-few}
 
 -- what was answered and written
 abbrev value : Listed → List ℕ → PathRanges
@@ -43,4 +43,4 @@ valued-at (listed l) few w r h =
 -- the ranges of a path of any kind
 pub valued : (kind : Kind) (t : Six) (u v : ℕ) (w : List ℕ) (r : Listed) → ListedAs (rangesOf kind t u v) blank w r
     → ByValue (rangesOf kind t u v) (value r w)
-valued kind t u v = valued-at (rangesOf kind t u v) (ranges-few kind t u v)
+valued kind t u v = valued-at (rangesOf kind t u v) (λ l e. ranges-few kind t u v l e)

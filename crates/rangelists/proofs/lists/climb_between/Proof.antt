@@ -5,9 +5,9 @@ use mathlib.Core.Path.{sym, _∙_}
 use Rattle.climb.proofs.Reaching.{reached-off}
 use Rattle.climb.proofs.Climbs.{climb-off-u, climb-off-v}
 use Rattle.climb.proofs.Handed.{climbs-from, climbed-there, climbed-off, climbed-unhung, climbed-on}
-use Rattle.ranges.proofs.Bounds.{climbs-small}
-use Rattle.ranges.proofs.lists.climb_between.Statement.{statement}
-use Rattle.ranges.proofs.lists.climb_between.Tie as tie
+use Rattle.rangelists.proofs.Bounds.{climbs-small}
+use Rattle.rangelists.proofs.lists.climb_between.Statement.{statement}
+use Rattle.rangelists.proofs.lists.climb_between.Tie as tie
 
 reach-requires : tie.Need-reach-requires
 reach-requires c κs = search needs

@@ -6,9 +6,9 @@ use lib.ListN.{length, drop, replicate}
 use Rattle.answers.specs.Limits.{mostRanges}
 use Rattle.answers.specs.declared.answer.Listed.{Listed}
 use Rattle.answers.specs.declared.answer.Listed.the-variants.{Count, Refused}
-use Rattle.ranges.specs.declared.values.PathRanges.{PathRanges}
+use Rattle.rangelists.specs.declared.values.PathRanges.{PathRanges}
 use Rattle.ranges.specs.Flat.{stride, flat}
 use Rattle.ranges.specs.Calls.{Answered, refused, listed}
 
 -- the array before anything is written
 abbrev pub blank : List ℕ

@@ -1,12 +1,12 @@
 // The ranges of a path by value, in an array that every path fits into.
-use crate::kinds::Kind;
-use crate::kinds::STRIDE;
 use crate::lists::path_ranges;
 use answers::answer::Listed;
 use answers::limits::MOST_RANGES;
+use ranges::kinds::Kind;
+use ranges::kinds::STRIDE;
 ghost use Rattle.tables.specs.Tables.{lent};
 ghost use Rattle.ranges.specs.Calls.{rangesOf};
-ghost use Rattle.ranges.specs.Values.{ByValue};
+ghost use Rattle.rangelists.specs.Values.{ByValue};
 
 // The numbers of as many ranges as a path has at most.
 pub const MOST_NUMBERS: usize = STRIDE * MOST_RANGES;

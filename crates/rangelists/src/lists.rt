@@ -1,8 +1,4 @@
 // The path from u to v as ranges, written into a lent list. Every refusal comes before the test of room, and a refused call writes nothing.
-use crate::chains::last_chain;
-use crate::chains::last_count;
-use crate::kinds::Kind;
-use crate::kinds::STRIDE;
 use crate::writes::write_path;
 use answers::answer::Listed;
 use answers::answer::Refusal;
@@ -12,10 +8,15 @@ use climb::climbing::climb_to_lca;
 use climb::places::Climbed;
 use climb::sound::hangs;
 use climb::sound::reach;
+use ranges::chains::last_chain;
+use ranges::chains::last_count;
+use ranges::kinds::Kind;
+use ranges::kinds::STRIDE;
 ghost use Rattle.tables.specs.Tables.{lent};
 ghost use Rattle.ranges.specs.Calls.{rangesOf};
-ghost use Rattle.ranges.specs.Inner.{ListedAs, Climbs, ClimbedBetween};
+ghost use Rattle.ranges.specs.Calls.{ListedAs};
+ghost use Rattle.rangelists.specs.Inner.{Climbs, ClimbedBetween};
 ghost use Rattle.ranges.specs.declared.kinds.Kind.the-variants.{Vertices, Edges, Both};
 
 // Climbs from u and v, with every test of what it reads.
 fn climb_between(

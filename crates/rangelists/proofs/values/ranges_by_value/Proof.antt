@@ -2,9 +2,9 @@
 use borrow.Author.Needs.{needs}
 use Rattle.answers.specs.Limits.{mostChains}
 use Rattle.tables.specs.Tables.{six}
-use Rattle.ranges.proofs.Valued.{valued}
-use Rattle.ranges.proofs.values.ranges_by_value.Statement.{statement}
-use Rattle.ranges.proofs.values.ranges_by_value.Tie as tie
+use Rattle.rangelists.proofs.Valued.{valued}
+use Rattle.rangelists.proofs.values.ranges_by_value.Statement.{statement}
+use Rattle.rangelists.proofs.values.ranges_by_value.Tie as tie
 
 slice-aggregate-path-ranges : tie.Need-slice-aggregate-path-ranges
 slice-aggregate-path-ranges c = search needs

@@ -1,16 +1,17 @@
 // Writing the ranges of a path into the slots of a lent list.
-use crate::chains::Last;
-use crate::chains::chain_range;
-use crate::chains::last_chain;
-use crate::chains::u_piece;
-use crate::chains::v_piece;
-use crate::flat::write_range;
-use crate::kinds::Kind;
 use climb::climbing::leave_chain;
 use climb::places::Climb;
 use climb::sound::reach;
+use ranges::chains::Last;
+use ranges::chains::chain_range;
+use ranges::chains::last_chain;
+use ranges::chains::u_piece;
+use ranges::chains::v_piece;
+use ranges::flat::write_range;
+use ranges::kinds::Kind;
 ghost use mathlib.Core.Path.{_≡_};
-ghost use Rattle.ranges.specs.Inner.{lastList, written, LastSlot, Writes, Wrote};
+ghost use Rattle.ranges.specs.Inner.{lastList, written};
+ghost use Rattle.rangelists.specs.Inner.{LastSlot, Writes, Wrote};
 
 // Writes the range of the last chain, if there is one, into a slot.
 fn write_last(ranges: &mut [u32], slot: usize, last: Last)

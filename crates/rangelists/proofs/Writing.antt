@@ -19,18 +19,19 @@ use Rattle.climb.proofs.Reaching.{reached-off, reached-vertex, seat-facts}
 use Rattle.climb.proofs.Climbs.{leaveChain}
 use Rattle.climb.proofs.Going.{Going, going-begins, going-u, going-v, u-fewer, v-fewer}
 use Rattle.climb.proofs.Handed.{climbs-from}
 use Rattle.ranges.specs.declared.kinds.PathRange.{PathRange}
 use Rattle.ranges.specs.declared.kinds.Piece.{Piece}
 use Rattle.ranges.specs.declared.kinds.Kind.{Kind}
 use Rattle.ranges.specs.declared.chains.Last.{Last}
 use Rattle.ranges.specs.Ranges.{Found, lost, found, uPiece, vPiece, chainRange, pathRanges}
 use Rattle.ranges.specs.Flat.{stride, flat}
-use Rattle.ranges.specs.Inner.{Chain, Ends, lastChain, lastList, written, Small, Slot, LastSlot, Climbs, Known}
-use Rattle.ranges.proofs.Bounds.{climbs-small}
-use Rattle.ranges.proofs.Hung.{ReachedIn, LeftIn, hangsIn, reached-unhung, reached-hung, left-number, left-off, left-unhung, left-hung}
+use Rattle.ranges.specs.Inner.{Chain, Ends, lastChain, lastList, written, Small, Slot}
+use Rattle.rangelists.specs.Inner.{LastSlot, Climbs, Known}
+use Rattle.rangelists.proofs.Bounds.{climbs-small}
+use Rattle.rangelists.proofs.Hung.{ReachedIn, LeftIn, hangsIn, reached-unhung, reached-hung, left-number, left-off, left-unhung, left-hung}
 use Rattle.ranges.proofs.Numbered.{chain-small, last-chain-small}
 use Rattle.ranges.proofs.Slots.{written-length, written-front, written-back, written-all}
 use Rattle.ranges.proofs.Looks.{uRange, vRange, inFront, behind, ranging, range-met, range-u, range-u-lost, range-v, range-v-lost, range-from, range-off-u, range-off-v}
 
 -- Ranges that were found.
 

@@ -16,17 +16,19 @@ use Rattle.climb.specs.declared.places.Climb.{Climb}
 use Rattle.climb.specs.declared.places.Climbed.{Climbed}
 use Rattle.climb.specs.declared.places.Climbed.the-variants.{Met, Lost}
 use Rattle.climb.proofs.Passed.{answered, verdict-passed, verdict-refused, lengths, first-below, others}
 use Rattle.ranges.specs.declared.kinds.PathRange.{PathRange}
 use Rattle.ranges.specs.declared.kinds.Kind.{Kind}
 use Rattle.answers.specs.declared.answer.Listed.the-variants.{Count, Refused}
 use Rattle.ranges.specs.declared.chains.Last.{Last}
 use Rattle.ranges.specs.declared.chains.Last.the-variants.{One, Empty}
 use Rattle.ranges.specs.Ranges.{found, pathRanges}
 use Rattle.ranges.specs.Flat.{stride, flat}
 use Rattle.ranges.specs.Calls.{Answered, refused, listed, fromFound, rangesOf}
-use Rattle.ranges.specs.Inner.{ListedAs, Ends, lastChain, lastList, Climbs, Known}
+use Rattle.ranges.specs.Calls.{ListedAs}
+use Rattle.ranges.specs.Inner.{Ends, lastChain, lastList}
+use Rattle.rangelists.specs.Inner.{Climbs, Known}
 use Rattle.ranges.proofs.Bounds.{log2-bounded}
 use Rattle.ranges.proofs.Looks.{Agree, Counted, agree}
 
 -- The three ways of a list.
 

@@ -1,0 +1,5 @@
+pub mod Bounds
+pub mod Hung
+pub mod Writing
+pub mod Listing
+pub mod Valued
