@@ -24,8 +24,7 @@ use Rattle.answers.specs.declared.answer.Interval.{Interval}
 use Rattle.answers.specs.declared.answer.Interval.the-variants.{Between, Refused as NoInterval}
 use Rattle.answers.proofs.Choices.{pick-true, pick-false}
 use Rattle.ranges.specs.Flat.{stride, flat}
-use Rattle.ranges.specs.Calls.{Answered, refused, listed, rangesOf, roomAnswer}
-use Rattle.ranges.specs.Calls.{ListedAs}
+use Rattle.ranges.specs.Calls.{Answered, refused, listed, rangesOf, roomAnswer, ListedAs}
 use Rattle.ranges.proofs.Slots.{flat-length}
 use Rattle.ranges.specs.declared.kinds.Kind.{Kind}
 use Rattle.ranges.specs.declared.kinds.PathRange.{PathRange}

@@ -9,6 +9,7 @@ use Rattle.paths.proofs.Listed.{in-below}
 use Rattle.paths.proofs.Unique.{path-simple}
 use Rattle.answers.specs.Limits.{maxVertices}
 use Rattle.numbering.specs.Log.{log2}
+use Rattle.numbering.proofs.Logs.{log2-low, log2-high}
 use Rattle.tables.specs.Tables.{Six}
 use Rattle.queries.specs.Queries.{lca}
 use Rattle.answers.specs.declared.answer.Answer.{Answer}
@@ -19,18 +20,19 @@ use Rattle.pathlaws.specs.Given.{Given}
 use Rattle.pathlaws.proofs.Lca.{lca-common, lca-any-order}
 use Rattle.pathlaws.proofs.SimplePaths.{lca-simple}
 use Rattle.ranges.specs.Flat.{stride, flat}
-use Rattle.ranges.specs.Calls.{Answered, rangesOf, rangeRoom}
-use Rattle.ranges.specs.Calls.{ListedAs}
+use Rattle.ranges.specs.Calls.{Answered, listed, rangesOf, ListedAs}
 use Rattle.ranges.specs.declared.kinds.PathRange.{PathRange}
+use Rattle.ranges.specs.declared.kinds.Kind.{Kind}
 use Rattle.ranges.specs.declared.kinds.Kind.the-variants.{Vertices}
 use Rattle.answers.specs.declared.answer.Listed.{Listed}
 use Rattle.answers.specs.declared.answer.Listed.the-variants.{Count, Refused}
+use Rattle.ranges.proofs.Few.{ranges-enough}
 use Rattle.readings.proofs.Bounds.{ranges-room}
 use Rattle.readings.proofs.PathReadings.{ranges-turn}
 use Rattle.readings.proofs.SimpleReadings.{vertices-simple, ranges-simple-cut, simple-last}
 use Rattle.records.specs.Records.{RecordedAs}
 use Rattle.demands.specs.Numbers.{OnPath}
-use Rattle.demands.specs.Third.{Ranges, OnAllThree, InEveryOrder, Routes, ThirdDemand}
+use Rattle.demands.specs.Third.{OnAllThree, InEveryOrder, Routes, RangeRoom, ThirdDemand}
 use Rattle.demands.proofs.Passed.{build-given}
 use Rattle.demands.proofs.Found.{ranges-of, ranges-there}
 
@@ -40,36 +42,31 @@ one-number e f = cc
 
 module _ {n root : ℕ} {A : ℕ → List ℕ} {t : Six} {kids : ℕ → List ℕ} (G : Given n A root t kids) where
   -- there are few of them
-  ranges-few : {u v : ℕ} → u < n → v < n → {l : List PathRange} → Ranges t u v l → length l ≤ 2 * log2 n + 1
-  ranges-few hu hv {l} e = ranges-room G Vertices hu hv l (ranges-of G Vertices hu hv e)
-
-  -- the number of `range_room`
-  room-told : rangeRoom n ≡ Is (2 * log2 n + 1)
-  room-told =
-      let b = G .tables .spans .rooted .root-below in
-      rw (le-leb 1 n (omega arith), le-leb n maxVertices (G .limit))
+  ranges-few : (kind : Kind) {u v : ℕ} → u < n → v < n → {l : List PathRange} → rangesOf kind t u v ≡ listed l → length l ≤ 2 * log2 n + 1
+  ranges-few kind hu hv {l} e = ranges-room G kind hu hv l (ranges-of G kind hu hv e)
 
   -- a list of that room holds them all
   list-whole :
-      {u v : ℕ} → u < n → v < n → {lent left : List ℕ} {r : Listed} → ListedAs (rangesOf Vertices t u v) lent left r
+      (kind : Kind) {u v : ℕ} → u < n → v < n → {lent left : List ℕ} {r : Listed} → ListedAs (rangesOf kind t u v) lent left r
       → stride * (2 * log2 n + 1) ≤ length lent
-      → (l : List PathRange) × Ranges t u v l × (r ≡ Count (length l)) × (left ≡ flat l ++ drop (stride * length l) lent)
-  list-whole hu hv {lent} {left} {r} p h =
-      let f = ranges-there G Vertices hu hv in
+      → (l : List PathRange) × (rangesOf kind t u v ≡ listed l) × (r ≡ Count (length l)) × (left ≡ flat l ++ drop (stride * length l) lent)
+  list-whole kind hu hv {lent} {left} {r} p h =
+      let f = ranges-there G kind hu hv in
       let l : List PathRange = f .0 in
-      let few = ranges-few hu hv (f .1) in
+      let few = ranges-few kind hu hv (f .1) in
       let q = subst (λ (b : Answered). ListedAs b lent left r) (f .1) p in
       let e = le-leb (stride * length l) (length lent) (omega arith) in
       (l, f .1, q .answer ∙ pick-true (Count (length l)) (Refused NoRoom) e, q .list ∙ pick-true (flat l ++ drop (stride * length l) lent) lent e)
 
   -- so does a slice of records
   record-whole :
-      {u v : ℕ} → u < n → v < n → {lent left : List PathRange} {r : Listed} → RecordedAs (rangesOf Vertices t u v) lent left r → 2 * log2 n + 1 ≤ length lent
-      → (l : List PathRange) × Ranges t u v l × (r ≡ Count (length l)) × (left ≡ l ++ drop (length l) lent)
-  record-whole hu hv {lent} {left} {r} p h =
-      let f = ranges-there G Vertices hu hv in
+      (kind : Kind) {u v : ℕ} → u < n → v < n → {lent left : List PathRange} {r : Listed} → RecordedAs (rangesOf kind t u v) lent left r
+      → 2 * log2 n + 1 ≤ length lent
+      → (l : List PathRange) × (rangesOf kind t u v ≡ listed l) × (r ≡ Count (length l)) × (left ≡ l ++ drop (length l) lent)
+  record-whole kind hu hv {lent} {left} {r} p h =
+      let f = ranges-there G kind hu hv in
       let l : List PathRange = f .0 in
-      let few = ranges-few hu hv (f .1) in
+      let few = ranges-few kind hu hv (f .1) in
       let q = subst (λ (b : Answered). RecordedAs b lent left r) (f .1) p in
       let e = le-leb (length l) (length lent) (omega arith) in
       (l, f .1, q .answer ∙ pick-true (Count (length l)) (Refused NoRoom) e, q .list ∙ pick-true (l ++ drop (length l) lent) lent e)
@@ -120,13 +117,20 @@ module _ {n root : ℕ} {A : ℕ → List ℕ} {t : Six} {kids : ℕ → List �
         let hw = on-vertex p in
         ranges-simple-cut G s Vertices w (p .2) l l₁ l₂ (ranges-of G Vertices hu hv e) (ranges-of G Vertices hu hw e₁) (ranges-of G Vertices hw hv e₂);
     turned = λ hu hv {l} {m} e f. ranges-turn G Vertices hu hv l m (ranges-of G Vertices hu hv e) (ranges-of G Vertices hv hu f);
-    few = λ hu hv e. ranges-few hu hv e;
-    room = room-told;
-    listed-whole = λ hu hv p h. list-whole hu hv p h;
-    recorded-whole = λ hu hv p h. record-whole hu hv p h;
+    few = λ hu hv e. ranges-few Vertices hu hv e;
+    listed-whole = λ kind hu hv p h. list-whole kind hu hv p h;
+    recorded-whole = λ kind hu hv p h. record-whole kind hu hv p h;
     lca = λ hr hu hv. lca-one hr hu hv;
   }
 
+-- range room is always enough
+room-enough : RangeRoom
+room-enough = record {
+  floor-log2 = λ {n} h. (log2-low n h, log2-high n);
+  enough = ranges-enough;
+  answer = λ {n} some few. rw (le-leb 1 n some, le-leb n maxVertices few);
+}
+
 -- condition 3 of the tender
 pub third-demand : ThirdDemand
-third-demand = record { built = λ b. routes (build-given b) }
+third-demand = record { built = λ b. routes (build-given b); range-room = room-enough }

@@ -20,8 +20,7 @@ use Rattle.answers.specs.Answers.{answerCode, answerValues, intervalCode, inter
 use Rattle.answers.specs.declared.answer.Answer.{Answer}
 use Rattle.answers.specs.declared.answer.Interval.{Interval}
 use Rattle.ranges.specs.Flat.{stride}
-use Rattle.ranges.specs.Calls.{Answered, rangesOf, rangeRoom}
-use Rattle.ranges.specs.Calls.{ListedAs}
+use Rattle.ranges.specs.Calls.{Answered, rangesOf, rangeRoom, ListedAs}
 use Rattle.ranges.specs.declared.kinds.Kind.{Kind}
 use Rattle.ranges.specs.declared.kinds.PathRange.{PathRange}
 use Rattle.answers.specs.declared.answer.Listed.{Listed}

@@ -2,24 +2,26 @@
 -- the simple path in order. Cut at any vertex w on it, that reading is the one to w followed by the one from w without its first number. From v to u
 -- the reading is reversed. There are at most 2·floor(log2 n)+1 ranges. lca(r,u,v) is the one vertex on all three paths between r, u and v, in every
 -- order of the three."
-use Prim.Native.Nat.{ℕ, _+_, _*_, _≤_, _<_}
+use Prim.Native.Nat.{ℕ, _+_, _*_, _≤_, _<_, _^_}
 use mathlib.Core.Path.{_≡_}
 use mathlib.Core.List.{List, _∷_, _++_, map, reverse}
 use lib.ListN.{length, drop}
 use Rattle.sums.specs.Sum.{at}
 use Rattle.paths.specs.Walk.{Stands, Simple}
 use Rattle.answers.specs.Codes.{done}
+use Rattle.answers.specs.Limits.{maxVertices}
 use Rattle.graph.specs.Lent.{vertices, listOf}
 use Rattle.numbering.specs.Log.{log2}
 use Rattle.tables.specs.Tables.{Six}
 use Rattle.hld.specs.Build.{Builds}
+use Rattle.climb.specs.Asked.{sizeOf}
 use Rattle.queries.specs.Queries.{lca}
 use Rattle.answers.specs.declared.answer.Answer.the-variants.{Is}
 use Rattle.ranges.specs.Flat.{stride, flat}
-use Rattle.ranges.specs.Calls.{listed, rangesOf, rangeRoom}
-use Rattle.ranges.specs.Calls.{ListedAs}
+use Rattle.ranges.specs.Calls.{listed, rangesOf, rangeRoom, ListedAs}
 use Rattle.ranges.specs.Readings.{reading}
 use Rattle.ranges.specs.declared.kinds.PathRange.{PathRange}
+use Rattle.ranges.specs.declared.kinds.Kind.{Kind}
 use Rattle.ranges.specs.declared.kinds.Kind.the-variants.{Vertices}
 use Rattle.answers.specs.declared.answer.Listed.{Listed}
 use Rattle.answers.specs.declared.answer.Listed.the-variants.{Count}
@@ -59,23 +61,29 @@ pub record Routes (n : ℕ) (A : ℕ → List ℕ) (t : Six) : Type 0 where
   pub turned : {u v : ℕ} → u < n → v < n → {l m : List PathRange} → Ranges t u v l → Ranges t v u m → reading m ≡ reverse (reading l)
   -- "There are at most 2·floor(log2 n)+1 ranges."
   pub few : {u v : ℕ} → u < n → v < n → {l : List PathRange} → Ranges t u v l → length l ≤ 2 * log2 n + 1
-  -- which is the number that `range_room` answers
-  pub room : rangeRoom n ≡ Is (2 * log2 n + 1)
-  -- in a list with that room `vertex_path_ranges` writes them, `stride` numbers to a range, and answers how many they are
+  -- in a list with that room each call for ranges writes them all, `stride` numbers to a range, and answers how many they are
   pub listed-whole :
-      {u v : ℕ} → u < n → v < n → {lent left : List ℕ} {r : Listed} → ListedAs (rangesOf Vertices t u v) lent left r
+      (kind : Kind) {u v : ℕ} → u < n → v < n → {lent left : List ℕ} {r : Listed} → ListedAs (rangesOf kind t u v) lent left r
       → stride * (2 * log2 n + 1) ≤ length lent
-      → (l : List PathRange) × Ranges t u v l × (r ≡ Count (length l)) × (left ≡ flat l ++ drop (stride * length l) lent)
-  -- and `vertex_path_records`, one record to a range
+      → (l : List PathRange) × (rangesOf kind t u v ≡ listed l) × (r ≡ Count (length l)) × (left ≡ flat l ++ drop (stride * length l) lent)
+  -- and so with records, one to a range
   pub recorded-whole :
-      {u v : ℕ} → u < n → v < n → {lent left : List PathRange} {r : Listed} → RecordedAs (rangesOf Vertices t u v) lent left r
+      (kind : Kind) {u v : ℕ} → u < n → v < n → {lent left : List PathRange} {r : Listed} → RecordedAs (rangesOf kind t u v) lent left r
       → 2 * log2 n + 1 ≤ length lent
-      → (l : List PathRange) × Ranges t u v l × (r ≡ Count (length l)) × (left ≡ l ++ drop (length l) lent)
+      → (l : List PathRange) × (rangesOf kind t u v ≡ listed l) × (r ≡ Count (length l)) × (left ≡ l ++ drop (length l) lent)
   -- "lca(r,u,v) is the one vertex on all three paths between r, u and v, in every order of the three."
   pub lca :
       {r u v : ℕ} → r < n → u < n → v < n
       → (m : ℕ) × InEveryOrder t r u v m × OnAllThree n A r u v m × ((x : ℕ) → OnAllThree n A r u v x → x ≡ m)
 
+-- 01: "Range room: 2·floor(log2 n)+1 is always enough, and a call returns that number for n from 1 to 32,768": for ranges of each kind, on any tables
+pub record RangeRoom : Type 0 where
+  -- floor(log2 n), whatever way it is computed
+  pub floor-log2 : {n : ℕ} → 1 ≤ n → (2 ^ log2 n ≤ n) × (n < 2 ^ (log2 n + 1))
+  pub enough : (kind : Kind) (t : Six) (u v : ℕ) (l : List PathRange) → rangesOf kind t u v ≡ listed l → length l ≤ 2 * log2 (sizeOf t) + 1
+  pub answer : {n : ℕ} → 1 ≤ n → n ≤ maxVertices → rangeRoom n ≡ Is (2 * log2 n + 1)
+
 pub record ThirdDemand : Type 0 where
   -- "For tables built from an accepted tree": after every build that answered 0
   pub built : {os ts w w′ : List ℕ} {root : ℕ} {t t′ : Six} → Builds os ts root t w t′ w′ done → Routes (vertices os) (listOf os ts) t′
+  pub range-room : RangeRoom

@@ -10,8 +10,7 @@ use Rattle.sums.proofs.Sums.{equal-or-not}
 use Rattle.tables.specs.Tables.{Six}
 use Rattle.queries.specs.Queries.{distance, lca, kthAncestor, jump, subtreeSize}
 use Rattle.ranges.specs.Flat.{stride}
-use Rattle.ranges.specs.Calls.{Answered, refused, listed, rangesOf}
-use Rattle.ranges.specs.Calls.{ListedAs}
+use Rattle.ranges.specs.Calls.{Answered, refused, listed, rangesOf, ListedAs}
 use Rattle.ranges.specs.declared.kinds.Kind.{Kind}
 use Rattle.ranges.specs.declared.kinds.Kind.the-variants.{Vertices, Edges, Both}
 use Rattle.answers.specs.declared.answer.Listed.{Listed}

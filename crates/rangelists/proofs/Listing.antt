@@ -23,8 +23,7 @@ use Rattle.ranges.specs.declared.chains.Last.{Last}
 use Rattle.ranges.specs.declared.chains.Last.the-variants.{One, Empty}
 use Rattle.ranges.specs.Ranges.{found, pathRanges}
 use Rattle.ranges.specs.Flat.{stride, flat}
-use Rattle.ranges.specs.Calls.{Answered, refused, listed, fromFound, rangesOf}
-use Rattle.ranges.specs.Calls.{ListedAs}
+use Rattle.ranges.specs.Calls.{Answered, refused, listed, fromFound, rangesOf, ListedAs}
 use Rattle.ranges.specs.Inner.{Ends, lastChain, lastList}
 use Rattle.rangelists.specs.Inner.{Climbs, Known}
 use Rattle.ranges.proofs.Bounds.{log2-bounded}

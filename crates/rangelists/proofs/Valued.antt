@@ -13,8 +13,7 @@ use Rattle.ranges.specs.declared.kinds.PathRange.{PathRange}
 use Rattle.ranges.specs.declared.kinds.Kind.{Kind}
 use Rattle.rangelists.specs.declared.values.PathRanges.{PathRanges}
 use Rattle.ranges.specs.Flat.{stride}
-use Rattle.ranges.specs.Calls.{Answered, refused, listed, rangesOf}
-use Rattle.ranges.specs.Calls.{ListedAs}
+use Rattle.ranges.specs.Calls.{Answered, refused, listed, rangesOf, ListedAs}
 use Rattle.rangelists.specs.Values.{blank, ByValue}
 use Rattle.ranges.proofs.Few.{ranges-few}
 

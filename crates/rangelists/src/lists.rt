@@ -13,8 +13,7 @@ use ranges::chains::last_count;
 use ranges::kinds::Kind;
 use ranges::kinds::STRIDE;
 ghost use Rattle.tables.specs.Tables.{lent};
-ghost use Rattle.ranges.specs.Calls.{rangesOf};
-ghost use Rattle.ranges.specs.Calls.{ListedAs};
+ghost use Rattle.ranges.specs.Calls.{rangesOf, ListedAs};
 ghost use Rattle.rangelists.specs.Inner.{Climbs, ClimbedBetween};
 ghost use Rattle.ranges.specs.declared.kinds.Kind.the-variants.{Vertices, Edges, Both};
 

@@ -4,8 +4,7 @@ use mathlib.Core.Path.{_≡_, subst}
 use mathlib.Core.List.{List}
 use Rattle.answers.specs.declared.answer.Answer.{Answer}
 use Rattle.answers.specs.declared.answer.Interval.{Interval}
-use Rattle.ranges.specs.Calls.{Answered}
-use Rattle.ranges.specs.Calls.{ListedAs}
+use Rattle.ranges.specs.Calls.{Answered, ListedAs}
 use Rattle.answers.specs.declared.answer.Listed.{Listed}
 use Rattle.relaypath.specs.Handed.{Handed, HandedCount, HandedEnds}
 use Rattle.relaypath.specs.Listing.{HandedList}
