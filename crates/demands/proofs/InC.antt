@@ -26,6 +26,7 @@ use Rattle.demands.specs.Answers.{Caller, inRattle, Answers}
 use Rattle.demands.specs.InC.{inC, Untouched, DemandsInC}
 use Rattle.demands.proofs.First.{number-free, interval-free, count-free, ranges-kept}
 use Rattle.demands.proofs.Second.{second-demand}
+use Rattle.demands.proofs.Third.{third-demand}
 
 -- a caller sees an answer as it is
 record Sees (caller : Caller) : Type 0 where
@@ -95,4 +96,11 @@ untouched = record {
 
 -- what a caller in C may rely on
 pub demands-in-c : DemandsInC
-demands-in-c = record { answers = λ b. seen sees-c (second-demand .answers b); untouched = untouched }
+demands-in-c = record {
+  answers = λ b. seen sees-c (second-demand .answers b);
+  reads = λ d.
+      let r = second-demand .reads d in
+      record { parent-read = λ h. sees-c .number _ _ (r .parent-read h); level-read = λ h. sees-c .number _ _ (r .level-read h) };
+  room = λ n some few. sees-c .number _ _ (third-demand .range-room .answer n some few);
+  untouched = untouched;
+}

@@ -1,18 +1,23 @@
 -- Condition 2 holds of every result that the calls' contracts allow.
-use Prim.Native.Nat.{ℕ, _≤_}
+use Prim.Native.Nat.{ℕ, _≤_, _<_}
 use native.Mathlib.Omega.{arith}
-use mathlib.Core.Path.{refl}
+use mathlib.Core.Path.{_≡_, refl}
 use mathlib.Core.List.{List, [], _∷_}
 use lib.ListN.{length}
+use borrow.Author.Tests.{le-leb, lt-ltb, eq-eqb}
+use Rattle.sums.specs.Sum.{at}
 use Rattle.paths.specs.Tree.{Tree}
 use Rattle.answers.specs.Codes.{done, noRoom}
+use Rattle.answers.specs.Limits.{maxVertices}
+use Rattle.answers.specs.declared.answer.Answer.the-variants.{Is}
 use Rattle.graph.specs.Judgement.{test}
 use Rattle.graph.specs.Lent.{vertices, listOf}
 use Rattle.graph.specs.Validation.{Sized, roomOf, validation, graphTests}
-use Rattle.graph.proofs.Passed.{AllPassed, done-exactly, passed-front, passed-back, passed-join, passed-sound, sound-passed}
+use Rattle.graph.proofs.Passed.{AllPassed, all-passed, done-exactly, passed-front, passed-back, passed-join, passed-sound, sound-passed}
 use Rattle.tables.specs.Tables.{Six}
 use Rattle.hld.specs.Build.{building, Builds}
 use Rattle.centroid.specs.Calls.{decomposing, Fitting, listing}
+use Rattle.centroid.specs.Reads.{readOf}
 use Rattle.demands.specs.Second.{InRange, Accepted, SecondDemand}
 use Rattle.demands.proofs.Passed.{build-given}
 use Rattle.demands.proofs.Numbers.{entries, answers, no-nine}
@@ -30,6 +35,19 @@ in-range {os} {ts} {root} s r p =
 tree-passes : {os ts : List ℕ} {root room : ℕ} → InRange os ts root room → Tree (vertices os) (listOf os ts) → AllPassed (graphTests os ts root)
 tree-passes {os} {ts} {root} i t =
     sound-passed os ts root (record { offsets = i .offsets; targets = i .targets; root-below = i .root-below; tree = t })
+
+-- an entry is read from a table beside another of its length
+entry-read : {os ts : List ℕ} (table other : List ℕ) (c : ℕ) → Sized os ts → length table ≡ vertices os → length other ≡ vertices os → c < vertices os
+    → readOf table other c ≡ Is (at table c)
+entry-read {os} table other c s e f h =
+    rw (
+      e,
+      f,
+      le-leb 1 (vertices os) (s .some-vertex),
+      le-leb (vertices os) maxVertices (s .few-vertices),
+      eq-eqb (vertices os) (vertices os) refl,
+      lt-ltb c (vertices os) h,
+    )
 
 -- 0 is answered exactly for trees
 accepted : Accepted
@@ -83,5 +101,9 @@ second-demand = record {
   answers = λ b. answers (build-given b) (build-tree b);
   no-nine = λ b. no-nine (build-given b);
   centroids = centroids;
+  reads = λ {os} {ts} {up} {level} {w} {up′} {level′} d.
+      let t = d .written refl in
+      let s = all-passed (decomposing os ts up level (length w)) (omega arith) (d .code) .0 .sized in
+      record { parent-read = λ {c} h. entry-read up′ level′ c s (t .up-long) (t .level-long) h; level-read = λ {c} h. entry-read level′ up′ c s (t .level-long) (t .up-long) h };
   component-lists = component-lists;
 }

@@ -128,7 +128,7 @@ room-enough : RangeRoom
 room-enough = record {
   floor-log2 = λ {n} h. (log2-low n h, log2-high n);
   enough = ranges-enough;
-  answer = λ {n} some few. rw (le-leb 1 n some, le-leb n maxVertices few);
+  answer = λ n some few. rw (le-leb 1 n some, le-leb n maxVertices few);
 }
 
 -- condition 3 of the tender

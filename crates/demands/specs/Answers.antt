@@ -1,6 +1,6 @@
 -- What condition 2 asks of the answers to calls on the tables of a build: "every .. ancestor, path .. right". It is said once, for any caller: in Rattle
 -- an answer is a value; what it is in C says specs/InC.antt.
-use Prim.Native.Nat.{ℕ, _+_, _≤_, _<_}
+use Prim.Native.Nat.{ℕ, _+_, _*_, _≤_, _<_}
 use mathlib.Core.Path.{_≡_}
 use mathlib.Core.Logic.{_≢_}
 use mathlib.Core.Bool.{Bool}
@@ -8,6 +8,8 @@ use mathlib.Core.List.{List, _∷_, map}
 use lib.ListN.{length}
 use Rattle.sums.specs.Sum.{at, howMany}
 use Rattle.paths.specs.Walk.{Stands, Simple}
+use Rattle.numbering.specs.Log.{log2}
+use Rattle.answers.specs.Limits.{maxVertices}
 use Rattle.tables.specs.Tables.{Six}
 use Rattle.queries.specs.Queries.{vertexCount, rootOf, depthOf, vertexId, subtreeRange, kthAncestor, subtreeSize, distance as distanceOf, lca as lcaOf, jump as jumpOf}
 use Rattle.answers.specs.declared.answer.Refusal.the-variants.{BadTable}
@@ -16,11 +18,12 @@ use Rattle.answers.specs.declared.answer.Answer.the-variants.{Is, TooFar}
 use Rattle.answers.specs.declared.answer.Interval.{Interval}
 use Rattle.answers.specs.declared.answer.Interval.the-variants.{Between}
 use Rattle.pathlaws.specs.NeverNine.{NeverNine}
-use Rattle.ranges.specs.Calls.{Answered, refused, listed, rangesOf}
+use Rattle.ranges.specs.Calls.{Answered, refused, listed, rangesOf, rangeRoom}
 use Rattle.ranges.specs.Readings.{reading, edgeNumbers, bothNumbers}
 use Rattle.ranges.specs.declared.kinds.PathRange.{PathRange}
 use Rattle.ranges.specs.declared.kinds.Kind.{Kind}
 use Rattle.ranges.specs.declared.kinds.Kind.the-variants.{Vertices, Edges, Both}
+use Rattle.centroid.specs.Reads.{readOf}
 use Rattle.demands.specs.Numbers.{OnPath, PicksSubtree}
 
 -- how a caller sees that the answer is this number, that it is the refusal 10, that it is this interval, that these are the ranges
@@ -66,6 +69,15 @@ pub record Answers (caller : Caller) (n : ℕ) (A : ℕ → List ℕ) (root : �
   pub both-ranges :
       {u v : ℕ} {P : List ℕ} → Simple n (Stands A) u v P
       → (l : List PathRange) × caller .ranges (rangesOf Both t u v) l × (reading l ≡ bothNumbers (at (t .depth)) (at (t .id)) u P)
+
+-- the reads of the two tables of a decomposition: the entry of each vertex
+pub record Reads (caller : Caller) (n : ℕ) (up level : List ℕ) : Type 0 where
+  pub parent-read : {c : ℕ} → c < n → caller .number (readOf up level c) (at up c)
+  pub level-read : {c : ℕ} → c < n → caller .number (readOf level up c) (at level c)
+
+-- "and a call returns that number for n from 1 to 32,768"
+abbrev pub Room : Caller → Type 0
+Room caller = (n : ℕ) → 1 ≤ n → n ≤ maxVertices → caller .number (rangeRoom n) (2 * log2 n + 1)
 
 -- "Tables that a build wrote never give 9.": no query, and no call for ranges
 pub record NoNine (t : Six) : Type 0 where

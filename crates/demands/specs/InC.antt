@@ -13,9 +13,10 @@ use Rattle.tables.specs.Tables.{Six}
 use Rattle.hld.specs.Build.{Builds}
 use Rattle.ranges.specs.Flat.{stride, flat}
 use Rattle.ranges.specs.Calls.{Answered}
+use Rattle.centroid.specs.Calls.{Decomposes}
 use Rattle.relaypath.specs.Handed.{Handed, HandedEnds}
 use Rattle.relaypath.specs.Listing.{HandedList}
-use Rattle.demands.specs.Answers.{Caller, Answers}
+use Rattle.demands.specs.Answers.{Caller, Answers, Reads, Room}
 
 -- the code is 0 and the number stands in `*answer`; the code is 10 and `*answer` is as it was; the code is 0 and the ends stand in `*start` and `*end`;
 -- where the list has room the code is 0, their number stands in `*count` and the ranges at the front of the list, the rest of which is as it was
@@ -44,5 +45,9 @@ pub record DemandsInC : Type 0 where
   -- after a build that answered 0, each query and each call for ranges hands over what it means
   pub answers :
       {os ts w w′ : List ℕ} {root : ℕ} {t t′ : Six} → Builds os ts root t w t′ w′ done → Answers inC (vertices os) (listOf os ts) root t′
+  -- and after a decomposition that answered 0, each read
+  pub reads :
+      {os ts up level w up′ level′ w′ : List ℕ} → Decomposes os ts up level w up′ level′ w′ done → Reads inC (vertices os) up′ level′
+  pub room : Room inC
   -- the codes are those of the answers, whose tests condition 1 has
   pub untouched : Untouched

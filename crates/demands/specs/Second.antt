@@ -15,7 +15,7 @@ use Rattle.tables.specs.Tables.{Six, Long}
 use Rattle.hld.specs.Build.{Builds}
 use Rattle.centroid.specs.Calls.{Decomposes, Fitting, Lists}
 use Rattle.demands.specs.Numbers.{Entries}
-use Rattle.demands.specs.Answers.{inRattle, Answers, NoNine}
+use Rattle.demands.specs.Answers.{inRattle, Answers, NoNine, Reads}
 use Rattle.demands.specs.Centroids.{Centroids, ComponentLists}
 
 -- "with in-range numbers, within 01's limits": what 01 asks of lists and root before it looks at the graph, with work of `room` entries
@@ -63,6 +63,9 @@ pub record SecondDemand : Type 0 where
   pub centroids :
       {os ts up level w up′ level′ w′ : List ℕ} → Decomposes os ts up level w up′ level′ w′ done
       → Centroids (vertices os) (listOf os ts) up′ level′
+  pub reads :
+      {os ts up level w up′ level′ w′ : List ℕ} → Decomposes os ts up level w up′ level′ w′ done
+      → Reads inRattle (vertices os) up′ level′
   pub component-lists :
       {os ts vs ds bs ss w vs′ ds′ bs′ ss′ w′ : List ℕ} → Lists os ts vs ds bs ss w vs′ ds′ bs′ ss′ w′ done
       → ComponentLists (vertices os) (listOf os ts) vs′ ds′ bs′ ss′

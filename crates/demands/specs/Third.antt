@@ -9,7 +9,6 @@ use lib.ListN.{length, drop}
 use Rattle.sums.specs.Sum.{at}
 use Rattle.paths.specs.Walk.{Stands, Simple}
 use Rattle.answers.specs.Codes.{done}
-use Rattle.answers.specs.Limits.{maxVertices}
 use Rattle.graph.specs.Lent.{vertices, listOf}
 use Rattle.numbering.specs.Log.{log2}
 use Rattle.tables.specs.Tables.{Six}
@@ -18,7 +17,7 @@ use Rattle.climb.specs.Asked.{sizeOf}
 use Rattle.queries.specs.Queries.{lca}
 use Rattle.answers.specs.declared.answer.Answer.the-variants.{Is}
 use Rattle.ranges.specs.Flat.{stride, flat}
-use Rattle.ranges.specs.Calls.{listed, rangesOf, rangeRoom, ListedAs}
+use Rattle.ranges.specs.Calls.{listed, rangesOf, ListedAs}
 use Rattle.ranges.specs.Readings.{reading}
 use Rattle.ranges.specs.declared.kinds.PathRange.{PathRange}
 use Rattle.ranges.specs.declared.kinds.Kind.{Kind}
@@ -27,6 +26,7 @@ use Rattle.answers.specs.declared.answer.Listed.{Listed}
 use Rattle.answers.specs.declared.answer.Listed.the-variants.{Count}
 use Rattle.records.specs.Records.{RecordedAs}
 use Rattle.demands.specs.Numbers.{OnPath}
+use Rattle.demands.specs.Answers.{inRattle, Room}
 
 -- l are the vertex ranges from u to v
 abbrev pub Ranges : Six → ℕ → ℕ → List PathRange → Type 0
@@ -81,7 +81,7 @@ pub record RangeRoom : Type 0 where
   -- floor(log2 n), whatever way it is computed
   pub floor-log2 : {n : ℕ} → 1 ≤ n → (2 ^ log2 n ≤ n) × (n < 2 ^ (log2 n + 1))
   pub enough : (kind : Kind) (t : Six) (u v : ℕ) (l : List PathRange) → rangesOf kind t u v ≡ listed l → length l ≤ 2 * log2 (sizeOf t) + 1
-  pub answer : {n : ℕ} → 1 ≤ n → n ≤ maxVertices → rangeRoom n ≡ Is (2 * log2 n + 1)
+  pub answer : Room inRattle
 
 pub record ThirdDemand : Type 0 where
   -- "For tables built from an accepted tree": after every build that answered 0
