@@ -31,12 +31,6 @@ module _ {n root : ℕ} {A : ℕ → List ℕ} {par dep : ℕ → ℕ} (S : Span
   pub ways-same : {way : ℕ → ℕ → List ℕ} → Ways n A way → SameWay n (ptail par dep) way
   ways-same W u v hu hv = sym (path-unique S (W .simple hu hv))
 
--- so any two ways of one tree agree
-pub ways-one :
-    {n root : ℕ} {A : ℕ → List ℕ} {par dep : ℕ → ℕ} {way way′ : ℕ → ℕ → List ℕ}
-    → Spans n (Stands A) root par dep → Ways n A way → Ways n A way′ → SameWay n way way′
-ways-one S W W′ u v hu hv = sym (ways-same S W u v hu hv) ∙ ways-same S W′ u v hu hv
-
 -- components are the same by ways that agree
 pub component-same :
     (n : ℕ) (way way′ : ℕ → ℕ → List ℕ) → SameWay n way way′ → (level : ℕ → ℕ) {c : ℕ} → c < n
