@@ -11,7 +11,7 @@ use Rattle.answers.specs.Choice.{pick}
 use Rattle.climb.specs.Sound.{depthIn, standOn, Unsound}
 use Rattle.climb.specs.Climbing.{climbTo, ancestorOf}
 use Rattle.queries.specs.Queries.{distanceIn, deeper, lcaIn, ancestorIn, jumpIn}
-use Rattle.between.specs.Inner.{candidateOf, endOf, deeperCandidate, Deepest}
+use Rattle.between.specs.Inner.{candidateOf, climbEnd, deeperCandidate, Deepest}
 use Rattle.between.specs.declared.lca.Candidate.{Candidate}
 use Rattle.between.specs.declared.lca.Ended.{Ended}
 use Rattle.between.specs.declared.lca.Ended.the-variants.{At, Nowhere}
@@ -69,7 +69,7 @@ lcaOf a b c =
     ]
 
 -- which is the same
-lca-ends : (a b c : Climbed) → lcaBy (endOf a) (endOf b) (endOf c) ≡ lcaOf a b c
+lca-ends : (a b c : Climbed) → lcaBy (climbEnd a) (climbEnd b) (climbEnd c) ≡ lcaOf a b c
 lca-ends Lost b c = refl
 lca-ends (Met x) Lost c = refl
 lca-ends (Met x) (Met y) Lost = refl
@@ -80,7 +80,7 @@ lca-ends (Met x) (Met y) (Met z) =
 module _ (n : ℕ) (t : Six) (r u v : ℕ) where
   -- where the climb from x and y ends
   abbrev end : ℕ → ℕ → Ended
-  end x y = endOf (climbTo n t x y)
+  end x y = climbEnd (climbTo n t x y)
 
   lca-by : lcaBy (end u v) (end r u) (end r v) ≡ lcaIn n t r u v
   lca-by = lca-ends (climbTo n t u v) (climbTo n t r u) (climbTo n t r v)
@@ -110,11 +110,11 @@ module _ (n : ℕ) (t : Six) (r u v : ℕ) where
 
 -- where r is unsound, the second climb is lost if the first is not
 pub lca-off-r : (n : ℕ) (t : Six) (r u v : ℕ) → standOn n t r ≡ Unsound → Refused BadTable ≡ lcaIn n t r u v
-lca-off-r n t r u v off = first (endOf (climbTo n t u v)) refl
+lca-off-r n t r u v off = first (climbEnd (climbTo n t u v)) refl
   where
-    first : (x : Ended) → endOf (climbTo n t u v) ≡ x → Refused BadTable ≡ lcaIn n t r u v
+    first : (x : Ended) → climbEnd (climbTo n t u v) ≡ x → Refused BadTable ≡ lcaIn n t r u v
     first Nowhere e = lca-lost-1 n t r u v e
-    first (At a) e = lca-lost-2 n t r u v e (ap endOf (sym (climb-off-u n t r u off)))
+    first (At a) e = lca-lost-2 n t r u v e (ap climbEnd (sym (climb-off-u n t r u off)))
 
 -- an entry of a list of candidates
 abbrev entry : List Candidate → ℕ → Candidate
@@ -128,8 +128,8 @@ deepest-three l f g a b c e =
     ∙ ap (λ (m : List Candidate). deeperCandidate (deeperCandidate (entry m 0) (entry m 1)) (entry m 2)) e)
 
 -- the climb from the vertices of two places ends where the climb from u and v does
-pub ended-there : (n : ℕ) (t : Six) {u v x y : ℕ} → x ≡ u → y ≡ v → endOf (climbTo n t x y) ≡ endOf (climbTo n t u v)
-ended-there n t {u} {v} {x} {y} a b = ap (λ (k : ℕ). endOf (climbTo n t k y)) a ∙ ap (λ (k : ℕ). endOf (climbTo n t u k)) b
+pub ended-there : (n : ℕ) (t : Six) {u v x y : ℕ} → x ≡ u → y ≡ v → climbEnd (climbTo n t x y) ≡ climbEnd (climbTo n t u v)
+ended-there n t {u} {v} {x} {y} a b = ap (λ (k : ℕ). climbEnd (climbTo n t k y)) a ∙ ap (λ (k : ℕ). climbEnd (climbTo n t u k)) b
 
 -- Jumps.
 

@@ -31,12 +31,12 @@ Jumped P D H I O p q k r = (s : List ℕ) → r ≡ jumpIn (length P) (six P D H
 abbrev pub candidateOf : Place → Candidate
 candidateOf p = record { vertex = p .vertex; depth = p .depth }
 
-abbrev pub endOf : Climbed → Ended
-endOf (Met c) = At (candidateOf (ancestorOf c))
-endOf Lost = Nowhere
+abbrev pub climbEnd : Climbed → Ended
+climbEnd (Met c) = At (candidateOf (ancestorOf c))
+climbEnd Lost = Nowhere
 
 abbrev pub EndedAt : (P D H I : List ℕ) → ℕ → ℕ → Ended → Type 0
-EndedAt P D H I u v r = (o s : List ℕ) → r ≡ endOf (climbTo (length P) (six P D H I o s) u v)
+EndedAt P D H I u v r = (o s : List ℕ) → r ≡ climbEnd (climbTo (length P) (six P D H I o s) u v)
 
 abbrev pub deeperCandidate : Candidate → Candidate → Candidate
 deeperCandidate a b = pick (leb (a .depth) (b .depth)) b a

@@ -16,8 +16,8 @@ use Rattle.graph.specs.Marks.{markOf}
 use Rattle.graph.specs.Work.{Only}
 use Rattle.graph.proofs.Frames.{only-refl, only-trans, only-set, at-set-same, at-set-other}
 use Rattle.graph.proofs.Neighbours.{entry-below}
-use Rattle.numbering.specs.RuleOne.{keep}
-use Rattle.numbering.proofs.Kept.{keep-true, keep-false}
+use Rattle.paths.specs.Lists.{keep}
+use Rattle.paths.proofs.Kept.{keep-true, keep-false}
 use Rattle.centroid.specs.Regions.{startAt, parentAt, levelAt, removedFrom, regionsEnd}
 use Rattle.centroid.specs.Search.{live}
 use Rattle.centroid.specs.Parting.{leftOf, StartAsks, waiting, Started, gone, new, AddAsks, Added}

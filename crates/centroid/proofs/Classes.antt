@@ -10,16 +10,16 @@ use Rattle.paths.proofs.Steps.{on-same, on-last, on-below}
 use Rattle.paths.proofs.Turn.{on-turn}
 use Rattle.paths.proofs.Cut.{cover, on-first-part}
 use Rattle.centroid.specs.Search.{joinedBy}
-use Rattle.centroid.proofs.Tests.{every-in, in-every, every-same, same-test}
+use Rattle.answers.proofs.Choices.{all-in, in-all, all-same, same-test}
 
 module _ {n root : ℕ} {par dep : ℕ → ℕ} (R : Rooted n root par dep) where
   -- each vertex on the path passes
   pub joined-on : (g : ℕ → Bool) (s x y : ℕ) → joinedBy (ptail par dep) g s x ≡ true → On par dep y s x → g y ≡ true
-  joined-on g s x y e h = every-in g y (s ∷ ptail par dep s x) e h
+  joined-on g s x y e h = all-in g y (s ∷ ptail par dep s x) e h
 
   -- where each vertex on the path passes, its ends are joined
   pub on-joined : (g : ℕ → Bool) (s x : ℕ) → ((y : ℕ) → On par dep y s x → g y ≡ true) → joinedBy (ptail par dep) g s x ≡ true
-  on-joined g s x f = in-every g (s ∷ ptail par dep s x) f
+  on-joined g s x f = in-all g (s ∷ ptail par dep s x) f
 
   -- a vertex that passes is joined to itself
   pub joined-self : (g : ℕ → Bool) (s : ℕ) → g s ≡ true → joinedBy (ptail par dep) g s s ≡ true
@@ -54,7 +54,7 @@ module _ {n root : ℕ} {par dep : ℕ → ℕ} (R : Rooted n root par dep) wher
 
   -- tests that agree on the vertices join the same
   pub joined-same : (g g′ : ℕ → Bool) {s x : ℕ} → s < n → x < n → ((y : ℕ) → y < n → g y ≡ g′ y) → joinedBy (ptail par dep) g s x ≡ joinedBy (ptail par dep) g′ s x
-  joined-same g g′ {s} {x} hs hx f = every-same g g′ (s ∷ ptail par dep s x) (λ y h. f y (on-below R y hs hx h))
+  joined-same g g′ {s} {x} hs hx f = all-same g g′ (s ∷ ptail par dep s x) (λ y h. f y (on-below R y hs hx h))
 
   -- a weaker test joins more
   pub joined-weaker : (g g′ : ℕ → Bool) {s x : ℕ} → s < n → x < n → ((y : ℕ) → y < n → g y ≡ true → g′ y ≡ true) → joinedBy (ptail par dep) g s x ≡ true

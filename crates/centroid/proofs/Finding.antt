@@ -9,7 +9,7 @@ use Rattle.graph.specs.Lent.{listOf}
 use Rattle.graph.proofs.Frames.{only-trans}
 use Rattle.centroid.specs.Components.{CentroidFrom}
 use Rattle.centroid.specs.Regions.{regionsEnd}
-use Rattle.centroid.specs.Search.{live, joinedBy, Spread, WalkAsks, Walked, PickAsks, Hangs, Picked, Found}
+use Rattle.centroid.specs.Search.{live, joinedBy, Spread, WalkAsks, Walked, PickAsks, Hangs, Picked, CentroidFound}
 use Rattle.centroid.proofs.Living.{live-behind}
 use Rattle.centroid.proofs.Spreading.{spread-few}
 use Rattle.centroid.proofs.Halving.{hanging, hangs, heavy-centroid}
@@ -36,7 +36,7 @@ module _ {os ts : List ℕ} {n s : ℕ} {w : List ℕ} (a : WalkAsks os ts n s w
       }
 
   -- and the heavy position holds the centroid
-  pub found : {w₂ : List ℕ} {c : ℕ} → Picked n t w₁ w₂ c → Found os ts n s w w₂ c
+  pub found : {w₂ : List ℕ} {c : ℕ} → Picked n t w₁ w₂ c → CentroidFound os ts n s w w₂ c
   found {w₂} {c} r =
       let j : ℕ = r .place in
       let e : c ≡ v .spread .q j = r .answer ∙ v .spread .queue j (r .inside) in

@@ -19,9 +19,11 @@ use Rattle.paths.proofs.Turn.{on-turn}
 use Rattle.paths.proofs.Cut.{cover, on-last-part}
 use Rattle.paths.proofs.Unique.{path-simple}
 use Rattle.paths.proofs.Listed.{in-at}
-use Rattle.centroid.specs.Components.{every, inPart, Halves, CentroidFrom}
+use Rattle.answers.specs.Choice.{all?}
+use Rattle.centroid.specs.Components.{inPart, Halves, CentroidFrom}
 use Rattle.centroid.specs.Search.{joinedBy, Spread, Hangs, Heavy}
-use Rattle.centroid.proofs.Tests.{every-next, other-true, not-passed}
+use Rattle.answers.proofs.Choices.{all-others, not-passed}
+use Rattle.centroid.proofs.Tests.{other-true}
 use Rattle.centroid.proofs.Classes.{joined-on, joined-self, joined-turn, joined-part}
 use Rattle.centroid.proofs.Between.{next-on, on-or-not, linked-ne, before-beyond, beyond-longer, beyond-next}
 use Rattle.centroid.proofs.Avoiding.{avoids-off, off-avoids, meets, on-meets, off-meets, meets-on, part-avoids, in-part, out-part}
@@ -40,8 +42,8 @@ module _ {n : ℕ} {A : ℕ → List ℕ} {par dep : ℕ → ℕ} (S : Spans n (
       equal-or-not j 0 (first-joined j)
       (λ later.
       let k = M .earlier j (omega arith) h in
-      ap (λ (l : List ℕ). every g (q j ∷ l)) (M .step j (omega arith) h)
-      ∙ every-next g (q j) (q (p j) ∷ ptail par dep (q (p j)) s) (M .passing j h)
+      ap (λ (l : List ℕ). all? g (q j ∷ l)) (M .step j (omega arith) h)
+      ∙ all-others g (q j) (q (p j) ∷ ptail par dep (q (p j)) s) (M .passing j h)
       ∙ chain f (p j) (omega arith) (omega arith))
 
   -- so s is joined to each of them
@@ -85,8 +87,8 @@ module _ {n : ℕ} {A : ℕ → List ℕ} {par dep : ℕ → ℕ} (S : Spans n (
   unfolding hanging
   up-same j l hj a h ne =
       ap not
-      (ap (λ (m : List ℕ). every (λ y. not (eqb y (q j))) (q l ∷ m)) (M .step l a h)
-      ∙ every-next (λ y. not (eqb y (q j))) (q l) (q (p l) ∷ ptail par dep (q (p l)) s) (other-true (q j) (q l) (λ e. ne (M .once l j h hj e))))
+      (ap (λ (m : List ℕ). all? (λ y. not (eqb y (q j))) (q l ∷ m)) (M .step l a h)
+      ∙ all-others (λ y. not (eqb y (q j))) (q l) (q (p l) ∷ ptail par dep (q (p l)) s) (other-true (q j) (q l) (λ e. ne (M .once l j h hj e))))
 
   -- what is met before j does not hang below it
   early-off : (f j l : ℕ) → l ≤ f → j < t → l < j → On par dep (q j) (q l) s → ⊥

@@ -16,7 +16,7 @@ use Rattle.centroid.specs.Decomposition.{Began, CentroidAt}
 use Rattle.centroid.specs.Decomposition as decomposition
 use Rattle.centroid.specs.Search.{joinedBy}
 use Rattle.centroid.specs.Parting.{Pends, first, next, Entry, Parting}
-use Rattle.centroid.proofs.Tests.{same-test}
+use Rattle.answers.proofs.Choices.{same-test}
 use Rattle.centroid.proofs.Classes.{same-class, joined-same, joined-weaker}
 use Rattle.centroid.proofs.Ways.{centroid-same}
 use Rattle.centroid.proofs.Pending.{centroid-at-same}

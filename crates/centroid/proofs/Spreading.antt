@@ -13,21 +13,13 @@ use Rattle.sums.proofs.Pigeon.{Injective, injective-le}
 use Rattle.paths.specs.Walk.{In, NoDup, Stands}
 use Rattle.paths.specs.Rooted.{Spans}
 use Rattle.paths.specs.Route.{ptail, On}
-use Rattle.paths.proofs.Listed.{out-not, at-in}
+use Rattle.paths.proofs.Listed.{at-in, nodup-at}
 use Rattle.paths.proofs.Canon.{ptail-same}
 use Rattle.paths.proofs.Steps.{on-same}
 use Rattle.visit.proofs.Growing.{upd, upd-here, upd-there}
 use Rattle.centroid.specs.Search.{Spread}
 use Rattle.centroid.proofs.Tests.{passed-not-failed}
 use Rattle.centroid.proofs.Between.{Linked, linked-ne, linked-next, between-both}
-
--- a list without repeats has each entry at one place
-pub one-place : (l : List ℕ) → NoDup l → (i j : ℕ) → i < length l → j < length l → at l i ≡ at l j → i ≡ j
-one-place [] d i j hi hj e = absurd (omega arith)
-one-place (x ∷ l) d zero zero hi hj e = refl
-one-place (x ∷ l) d zero (suc j) hi hj e = absurd (out-not x l (d .0) (subst (λ (y : ℕ). In y l) (sym e) (at-in l j (omega arith))))
-one-place (x ∷ l) d (suc i) zero hi hj e = absurd (out-not x l (d .0) (subst (λ (y : ℕ). In y l) e (at-in l i (omega arith))))
-one-place (x ∷ l) d (suc i) (suc j) hi hj e = ap suc (one-place l (d .1) i j (omega arith) (omega arith) e)
 
 -- what holds of each f j below t, and of x, holds of f with x at t
 upd-all : (P : ℕ → Type 0) (f : ℕ → ℕ) (t x : ℕ) → ((j : ℕ) → j < t → P (f j)) → P x → (j : ℕ) → j < t + 1 → P (upd f t x j)
@@ -160,7 +152,7 @@ module _ {n : ℕ} {A : ℕ → List ℕ} {par dep : ℕ → ℕ} (S : Spans n (
       let f : q (p j) ≡ q i = ap (λ (l : List ℕ). at l 0) (sym (M .step j (omega arith) hj) ∙ ap (λ (y : ℕ). ptail par dep y s) e ∙ new-step) in
       let pj = M .earlier j (omega arith) hj in
       let r = M .looked j (omega arith) hj (M .once (p j) i (omega arith) hi f) in
-      let same = one-place (A (q i)) (nodup (q i) (M .below i hi)) (r .0) k (omega arith) hk (r .2 ∙ e) in
+      let same = nodup-at (A (q i)) (nodup (q i) (M .below i hi)) (r .0) k (omega arith) hk (r .2 ∙ e) in
       omega arith)
 
   -- so there is room for it

@@ -13,12 +13,11 @@ use Rattle.sums.proofs.Sums.{equal-or-not}
 use Rattle.paths.specs.Walk.{In, NoDup, Stands}
 use Rattle.paths.specs.Rooted.{Spans}
 use Rattle.paths.specs.Route.{ptail}
-use Rattle.paths.proofs.Listed.{in-at}
+use Rattle.paths.proofs.Listed.{in-at, nodup-at}
 use Rattle.centroid.specs.Components.{CentroidFrom}
 use Rattle.centroid.specs.Search.{joinedBy}
 use Rattle.centroid.specs.Parting.{Entry, Parting}
 use Rattle.centroid.proofs.Classes.{joined-turn}
-use Rattle.centroid.proofs.Spreading.{one-place}
 use Rattle.centroid.proofs.Removing.{Changed, still-left, was-joined, stays-joined, old-entry, new-entry, old-apart, new-apart, covered, one-more}
 use Rattle.centroid.proofs.Rows.{rows}
 
@@ -71,7 +70,7 @@ module _ {n : ℕ} {A : ℕ → List ℕ} {par dep : ℕ → ℕ} (Sp : Spans n 
       (joined-turn (Sp .rooted) (λ z. leb n (lv′ z)) (B .below i hi) (G .entries l (omega arith) tl .below)
       (subst₂ (λ (x y : ℕ). joinedBy (ptail par dep) (λ z. leb n (lv′ z)) x y ≡ true) (start-new i hi q) (ES .old l tl) on)))
       (λ k hk r. new-apart Sp G more hc F C (B .near i hi) (B .below i hi) (B .left i hi) (B .near k hk) (B .below k hk)
-      (λ same. (let z = one-place K (B .once) i k hi hk same in omega arith))
+      (λ same. (let z = nodup-at K (B .once) i k hi hk same in omega arith))
       (subst₂ (λ (x y : ℕ). joinedBy (ptail par dep) (λ z. leb n (lv′ z)) x y ≡ true) (start-new i hi q) (start-new k hk r) on)))
 
   cover : (x : ℕ) → x < n → n ≤ lv′ x → (j : ℕ) × (h + 1 ≤ j) × (j < t + length K) × (joinedBy (ptail par dep) (λ y. leb n (lv′ y)) (S′ j) x ≡ true)

@@ -18,11 +18,11 @@ use Rattle.graph.specs.Marks.{markOf, Marks}
 use Rattle.graph.specs.Work.{Only}
 use Rattle.graph.proofs.Frames.{only-trans, only-wider, at-set-same, at-set-other}
 use Rattle.graph.proofs.Neighbours.{list-below}
-use Rattle.numbering.proofs.Kept.{keep-in, keep-once}
+use Rattle.paths.proofs.Kept.{keep-in, keep-once}
 use Rattle.visit.proofs.Growing.{upd, upd-here, upd-there}
 use Rattle.centroid.specs.Components.{CentroidFrom}
 use Rattle.centroid.specs.Regions.{startAt, parentAt, levelAt, removedFrom, regionsEnd}
-use Rattle.centroid.specs.Search.{live, joinedBy, WalkAsks, Found}
+use Rattle.centroid.specs.Search.{live, joinedBy, WalkAsks, CentroidFound}
 use Rattle.centroid.specs.Parting.{Parting, leftOf, AddAsks, Added, RemoveAsks, Removed}
 use Rattle.centroid.proofs.Living.{live-mark, live-kept, live-behind}
 use Rattle.centroid.proofs.Classes.{joined-same}
@@ -65,7 +65,7 @@ module _ {os ts : List ℕ} {n h t : ℕ} {up level w : List ℕ} (a : RemoveAsk
         room = a .room;
       }
 
-  module _ {w₁ : List ℕ} {c : ℕ} (f : Found os ts n (at w (startAt n h)) w w₁ c) {w₂ : List ℕ} (M : Marks (removedFrom n) c w₁ w₂) where
+  module _ {w₁ : List ℕ} {c : ℕ} (f : CentroidFound os ts n (at w (startAt n h)) w w₁ c) {w₂ : List ℕ} (M : Marks (removedFrom n) c w₁ w₂) where
     changed : Changed c (at w (levelAt n h)) (a .state .lv) (upd (a .state .lv) c (at w (levelAt n h)))
     changed = record { here = upd-here (a .state .lv) c (at w (levelAt n h)); there = upd-there (a .state .lv) c (at w (levelAt n h)) }
 

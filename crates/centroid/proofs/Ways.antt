@@ -11,7 +11,8 @@ use Rattle.paths.specs.Walk.{Stands}
 use Rattle.paths.specs.Rooted.{Spans}
 use Rattle.paths.specs.Route.{ptail}
 use Rattle.paths.proofs.Unique.{path-simple, path-unique}
-use Rattle.centroid.specs.Components.{Ways, every, componentOf, inPart, Halves, CentroidFrom}
+use Rattle.answers.specs.Choice.{both, all?}
+use Rattle.centroid.specs.Components.{Ways, componentOf, inPart, Halves, CentroidFrom}
 use Rattle.centroid.specs.Decomposition.{CentroidAt}
 
 -- the two ways agree on the vertices
@@ -35,13 +36,13 @@ module _ {n root : ℕ} {A : ℕ → List ℕ} {par dep : ℕ → ℕ} (S : Span
 pub component-same :
     (n : ℕ) (way way′ : ℕ → ℕ → List ℕ) → SameWay n way way′ → (level : ℕ → ℕ) {c : ℕ} → c < n
     → SameSet n (componentOf way level c) (componentOf way′ level c)
-component-same n way way′ ways level {c} hc x hx = ap (λ (l : List ℕ). every (λ y. leb (level c) (level y)) (c ∷ l)) (ways c x hc hx)
+component-same n way way′ ways level {c} hc x hx = ap (λ (l : List ℕ). all? (λ y. leb (level c) (level y)) (c ∷ l)) (ways c x hc hx)
 
 module _ (n : ℕ) (way way′ : ℕ → ℕ → List ℕ) (C C′ : ℕ → Bool) (ways : SameWay n way way′) (same : SameSet n C C′) where
   -- so are the parts of components that agree
   pub part-same : (v : ℕ) {w x : ℕ} → w < n → x < n → inPart way C v w x ≡ inPart way′ C′ v w x
   part-same v {w} {x} hw hx =
-      ap₂ (λ (b : Bool) (l : List ℕ). elim b as (λ c. Bool) [ true ↦ every (λ y. not (eqb y v)) (w ∷ l) | false ↦ false ]) (same x hx) (ways w x hw hx)
+      ap₂ (λ (b : Bool) (l : List ℕ). both b (all? (λ y. not (eqb y v)) (w ∷ l))) (same x hx) (ways w x hw hx)
 
   -- what halves the one halves the other
   pub halves-same : (v : ℕ) → Halves n way C v → Halves n way′ C′ v

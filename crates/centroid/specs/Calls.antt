@@ -2,7 +2,8 @@
 use Prim.Native.Nat.{ℕ, _+_, _≤_}
 use mathlib.Core.Path.{_≡_}
 use mathlib.Core.List.{List, [], _∷_, _++_}
-use lib.ListN.{length, drop}
+use lib.ListN.{length}
+use Rattle.paths.specs.Lists.{front}
 use Rattle.answers.specs.Codes.{noRoom}
 use Rattle.graph.specs.Judgement.{Test, test}
 use Rattle.graph.specs.Lent.{vertices, listOf}
@@ -55,10 +56,6 @@ listTests os ts vs ds bs = graphTests os ts 0 ++ (test noRoom (Fitting os ts vs 
 abbrev pub listing : (os ts vs ds bs ss : List ℕ) → ℕ → List Test
 listing os ts vs ds bs ss room = opening (Sized os ts) ((roomOf os ts ≤ room) × (vertices os + 1 ≤ length ss)) (listTests os ts vs ds bs)
 
--- a list at the front of the lent one, whose entries past it are unchanged
-abbrev pub Front : List ℕ → List ℕ → List ℕ → Type 0
-Front l lent lent′ = lent′ ≡ l ++ drop (length l) lent
-
 -- what `component_lists` is lent: room for vertices, distances and branches, and the table of starts
 pub record Four : Type 0 where
   pub vertices : List ℕ
@@ -73,7 +70,7 @@ four vs ds bs ss = record { vertices = vs; distances = ds; branches = bs; starts
 abbrev pub FourOf : (os ts vs ds bs ss : List ℕ) → Four → Type 0
 FourOf os ts vs ds bs ss m =
     (l₁ : List ℕ) × (l₂ : List ℕ) × (l₃ : List ℕ) × (l₄ : List ℕ) × ListsOf (vertices os) (listOf os ts) l₁ l₂ l₃ l₄
-    × Front l₁ vs (m .vertices) × Front l₂ ds (m .distances) × Front l₃ bs (m .branches) × Front l₄ ss (m .starts)
+    × (m .vertices ≡ front l₁ vs) × (m .distances ≡ front l₂ ds) × (m .branches ≡ front l₃ bs) × (m .starts ≡ front l₄ ss)
 
 -- `component_lists` with room vs, ds, bs for vertices, distances and branches, ss for the starts, and work w
 abbrev pub Lists : (os ts vs ds bs ss w vs′ ds′ bs′ ss′ w′ : List ℕ) (c : ℕ) → Type 0

@@ -2,26 +2,22 @@
 use Prim.Native.Nat.{ℕ, _*_, _≤_, _<_}
 use mathlib.Core.Path.{_≡_}
 use mathlib.Core.Logic.{_≢_}
-use mathlib.Core.Bool.{Bool, true, false, not}
-use mathlib.Core.List.{List, [], _∷_}
+use mathlib.Core.Bool.{Bool, true, not}
+use mathlib.Core.List.{List, _∷_}
 use lib.Dec.{eqb, leb}
 use lib.ListN.{length}
 use Rattle.sums.specs.Sum.{howMany}
 use Rattle.paths.specs.Walk.{Stands, Simple}
+use Rattle.answers.specs.Choice.{both, all?}
 
 -- `way u v` is what follows u on the simple path to v, in the tree of n vertices with the lists A. A tree has one such path, so this says nothing of
 -- the tables.
 pub record Ways (n : ℕ) (A : ℕ → List ℕ) (way : ℕ → ℕ → List ℕ) : Type 0 where
   pub simple : {u v : ℕ} → u < n → v < n → Simple n (Stands A) u v (way u v)
 
--- each entry of a list passes the test
-abbrev pub every : (ℕ → Bool) → List ℕ → Bool
-every t [] = true
-every t (x ∷ l) = elim (t x) [ true ↦ every t l | false ↦ false ]
-
 -- x is in s's component when the vertices of a level below k are gone: the path from s to x meets none of them
 abbrev pub inComponent : (way : ℕ → ℕ → List ℕ) (level : ℕ → ℕ) → ℕ → ℕ → ℕ → Bool
-inComponent way level k s x = every (λ y. leb k (level y)) (s ∷ way s x)
+inComponent way level k s x = all? (λ y. leb k (level y)) (s ∷ way s x)
 
 -- "c's component is what is left around c when the centroids above it are removed"
 abbrev pub componentOf : (way : ℕ → ℕ → List ℕ) (level : ℕ → ℕ) → ℕ → ℕ → Bool
@@ -29,7 +25,7 @@ componentOf way level c x = inComponent way level (level c) c x
 
 -- when v is removed from the component C, x is in the part that w is in
 abbrev pub inPart : (way : ℕ → ℕ → List ℕ) (C : ℕ → Bool) → ℕ → ℕ → ℕ → Bool
-inPart way C v w x = elim (C x) [ true ↦ every (λ y. not (eqb y v)) (w ∷ way w x) | false ↦ false ]
+inPart way C v w x = both (C x) (all? (λ y. not (eqb y v)) (w ∷ way w x))
 
 -- "removal leaves parts of at most half the vertices": twice the part is at most the whole
 abbrev pub Halves : (n : ℕ) (way : ℕ → ℕ → List ℕ) (C : ℕ → Bool) → ℕ → Type 0

@@ -2,18 +2,19 @@
 -- the neighbour of c it hangs from (c itself for c)."
 use Prim.Native.Nat.{ℕ, zero, suc, _+_, _<_}
 use mathlib.Core.Path.{_≡_}
-use mathlib.Core.Bool.{Bool, true, false}
+use mathlib.Core.Bool.{Bool}
 use mathlib.Core.List.{List, [], _∷_, _++_, map}
 use lib.Dec.{eqb}
 use lib.ListN.{length}
 use Rattle.sums.specs.Sum.{at}
-use Rattle.numbering.specs.RuleOne.{keep}
+use Rattle.paths.specs.Lists.{keep}
+use Rattle.answers.specs.Choice.{both}
 use Rattle.centroid.specs.Components.{Ways, componentOf}
 use Rattle.centroid.specs.Decomposition.{DecompositionOf}
 
 -- the neighbours of x that are in the component C and one step farther from c than x, in list order
 abbrev pub onward : (A : ℕ → List ℕ) (way : ℕ → ℕ → List ℕ) (C : ℕ → Bool) → ℕ → ℕ → List ℕ
-onward A way C c x = keep (λ y. elim (C y) [ true ↦ eqb (length (way c y)) (suc (length (way c x))) | false ↦ false ]) (A x)
+onward A way C c x = keep (λ y. both (C y) (eqb (length (way c y)) (suc (length (way c x))))) (A x)
 
 abbrev pub onwards : (A : ℕ → List ℕ) (way : ℕ → ℕ → List ℕ) (C : ℕ → Bool) → ℕ → List ℕ → List ℕ
 onwards A way C c [] = []

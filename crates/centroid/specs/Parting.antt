@@ -16,7 +16,7 @@ use Rattle.graph.specs.Lent.{vertices, listOf}
 use Rattle.graph.specs.Validation.{graphTests}
 use Rattle.graph.specs.Steps.{Begun, GraphPart}
 use Rattle.graph.specs.Work.{Only}
-use Rattle.numbering.specs.RuleOne.{keep}
+use Rattle.paths.specs.Lists.{keep}
 use Rattle.centroid.specs.Components.{inComponent}
 use Rattle.centroid.specs.Decomposition.{CentroidAt, DecompositionOf}
 use Rattle.centroid.specs.Calls.{two, TwoLong, TwoOf}

@@ -13,7 +13,8 @@ use Rattle.paths.specs.Route.{ptail}
 use Rattle.graph.specs.Lent.{vertices, listOf, Offsets, Targets}
 use Rattle.graph.specs.Marks.{markOf}
 use Rattle.graph.specs.Work.{Only}
-use Rattle.centroid.specs.Components.{every, CentroidFrom}
+use Rattle.answers.specs.Choice.{all?}
+use Rattle.centroid.specs.Components.{CentroidFrom}
 use Rattle.centroid.specs.Regions.{removedFrom, queueFrom, queueAt, fromAt, sizeAt, regionsEnd}
 
 -- a lent graph that is a tree, seen from 0
@@ -34,7 +35,7 @@ live w n y = elim (ltb y n) [ true ↦ not (eqb (markOf w (removedFrom n) y) 1) 
 
 -- every vertex on the path from s to x passes the test
 abbrev pub joinedBy : (way : ℕ → ℕ → List ℕ) → (ℕ → Bool) → ℕ → ℕ → Bool
-joinedBy way g s x = every g (s ∷ way s x)
+joinedBy way g s x = all? g (s ∷ way s x)
 
 -- t vertices q 0, q 1, .. were met from s along vertices that pass the test g, each but the first from the position p j; of the one at position i
 -- the first k entries were looked at, of those before it all
@@ -133,7 +134,7 @@ pub record Picked (n t : ℕ) (w w′ : List ℕ) (r : ℕ) : Type 0 where
   pub only : Only (queueFrom n) (regionsEnd n) w w′
 
 -- c is the centroid of the component of s
-pub record Found (os ts : List ℕ) (n s : ℕ) (w w′ : List ℕ) (c : ℕ) : Type 0 where
+pub record CentroidFound (os ts : List ℕ) (n s : ℕ) (w w′ : List ℕ) (c : ℕ) : Type 0 where
   pub below : c < n
   pub centroid : (par dep : ℕ → ℕ) → Spans n (Stands (listOf os ts)) 0 par dep → CentroidFrom n (ptail par dep) (joinedBy (ptail par dep) (live w n) s) s c
   pub only : Only (queueFrom n) (regionsEnd n) w w′

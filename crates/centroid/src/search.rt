@@ -6,7 +6,7 @@ use crate::regions::REMOVED;
 use crate::regions::SIZES;
 use graph::lists::neighbours;
 use graph::marks::marked;
-ghost use Rattle.centroid.specs.Search.{EnterAsks, Entered, ListAsks, ListAnswers, WalkAsks, Walked, PickAsks, Picked, Found};
+ghost use Rattle.centroid.specs.Search.{EnterAsks, Entered, ListAsks, ListAnswers, WalkAsks, Walked, PickAsks, Picked, CentroidFound};
 
 // Enters x, met from position i: where it is not removed and not the vertex back, puts it into the queue. Answers how many are met.
 fn enter(n: usize, x: usize, back: usize, i: usize, met: usize, work: &mut [u32]) -> usize
@@ -103,7 +103,7 @@ pub fn find_centroid(
     work: &mut [u32],
 ) -> usize
     requires { ⌜ WalkAsks (now offsets) (now targets) n start (now work) ⌝ }
-    ensures { λ r. ⌜ Found (now (offsets .entry)) (now (targets .entry)) n start (now (work .entry)) (now (work .exit)) r ⌝ }
+    ensures { λ r. ⌜ CentroidFound (now (offsets .entry)) (now (targets .entry)) n start (now (work .entry)) (now (work .exit)) r ⌝ }
 {
     let total = walk_component(offsets, targets, n, start, work);
     pick_centroid(n, total, work)

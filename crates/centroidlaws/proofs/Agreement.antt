@@ -15,7 +15,7 @@ use Rattle.paths.specs.Rooted.{Spans}
 use Rattle.paths.specs.Route.{ptail}
 use Rattle.centroid.specs.Components.{componentOf, CentroidFrom}
 use Rattle.centroid.specs.Decomposition.{Began, first, next, DecompositionOf}
-use Rattle.centroidlaws.proofs.Every.{same-test}
+use Rattle.answers.proofs.Choices.{same-test}
 use Rattle.centroidlaws.proofs.Clear.{Clear, Linked, centroid-clear, one-neighbour, clear-turn, clear-join, clear-other}
 use Rattle.centroidlaws.proofs.Centroid.{centroid-one}
 use Rattle.centroidlaws.proofs.Parents.{Decomposed, Parent, decomposed, start-clear, parent-of, centroid-above}
@@ -64,7 +64,7 @@ module _
         clear-other R level k level′ (agree-low up level up′ level′ a) hd hx (clear-join R level k hd hc hx (clear-turn R level k hc hd cl) h) in
         let back : Clear par dep level′ k d x → Clear par dep level k c x = λ h.
         clear-join R level k hc hd hx cl (clear-other R level′ k level (agree-back up level up′ level′ a) hd hx h) in
-        same-test (λ e. q .1 (to (p .0 e))) (λ e. p .1 (back (q .0 e)))
+        same-test _ _ (λ e. q .1 (to (p .0 e))) (λ e. p .1 (back (q .0 e)))
 
     -- where both searches began at neighbours of their parents, the parents are one vertex and so are the starts
     same-start :

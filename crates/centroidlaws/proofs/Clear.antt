@@ -14,7 +14,7 @@ use Rattle.paths.proofs.Turn.{on-turn}
 use Rattle.paths.proofs.Cut.{cover, on-first-part, step-up, step-down}
 use Rattle.paths.proofs.Unique.{next-step}
 use Rattle.centroid.specs.Components.{inComponent, componentOf}
-use Rattle.centroidlaws.proofs.Every.{every-entry, each-every}
+use Rattle.answers.proofs.Choices.{all-in, in-all}
 
 -- the path from s to x meets no vertex of a level below k
 abbrev pub Clear : (par dep level : ℕ → ℕ) → ℕ → ℕ → ℕ → Type 0
@@ -27,8 +27,8 @@ Linked par dep u v = Child par dep u v ⊎ Child par dep v u
 -- the test of a component is passed exactly along clear paths
 pub component-clear : (par dep level : ℕ → ℕ) (k s x : ℕ) → (inComponent (ptail par dep) level k s x ≡ true) ↔ Clear par dep level k s x
 component-clear par dep level k s x = (
-  λ e y i. leb-true k (level y) (every-entry (λ y. leb k (level y)) (s ∷ ptail par dep s x) e y i),
-  λ c. each-every (λ y. leb k (level y)) (s ∷ ptail par dep s x) (λ y i. le-leb k (level y) (c y i)),
+  λ e y i. leb-true k (level y) (all-in (λ y. leb k (level y)) y (s ∷ ptail par dep s x) e i),
+  λ c. in-all (λ y. leb k (level y)) (s ∷ ptail par dep s x) (λ y i. le-leb k (level y) (c y i)),
 )
 
 -- the test of the component of a centroid of level k

@@ -15,7 +15,8 @@ use Rattle.graph.proofs.Judging.{sized?}
 use Rattle.graph.proofs.Passed.{all-passed, passed-front, passed-sound}
 use Rattle.graph.proofs.Calling.{fits?, graph-call-one}
 use Rattle.centroid.specs.Decomposition.{DecompositionOf}
-use Rattle.centroid.specs.Calls.{Two, two, TwoLong, TwoOf, decomposing, Decomposes, Fitting, listing, Front, Four, FourOf, Lists}
+use Rattle.paths.specs.Lists.{front}
+use Rattle.centroid.specs.Calls.{Two, two, TwoLong, TwoOf, decomposing, Decomposes, Fitting, listing, Four, FourOf, Lists}
 use Rattle.centroidlaws.proofs.Passed.{Passed, sound-rooted}
 use Rattle.centroidlaws.proofs.Agreement.{decomposition-one}
 use Rattle.centroidlaws.proofs.SameLists.{lists-one, lists-total}
@@ -60,7 +61,7 @@ pub fitting-total :
 fitting-total os ts vs ds bs g D F = let e = lists-total (g .listed) D (F .lists) in omega arith
 
 -- one list at the front of a lent one gives one result
-front-one : (lent : List ℕ) {l m a b : List ℕ} → l ≡ m → Front l lent a → Front m lent b → a ≡ b
+front-one : (lent : List ℕ) {l m a b : List ℕ} → l ≡ m → a ≡ front l lent → b ≡ front m lent → a ≡ b
 front-one lent e p q = p ∙ ap (λ (l : List ℕ). l ++ drop (length l) lent) e ∙ sym q
 
 -- two results that `Lists` allows coincide: the code, the four lists, and all of work

@@ -19,10 +19,11 @@ use Rattle.paths.proofs.Canon.{ptail-same}
 use Rattle.paths.proofs.Steps.{ptail-none}
 use Rattle.paths.proofs.Turn.{on-turn}
 use Rattle.paths.proofs.Counted.{in-count, count-in, count-absent, nodup-count, count-nodup, count-above, count-length}
-use Rattle.numbering.proofs.Kept.{keep-in, keep-once}
+use Rattle.paths.proofs.Kept.{keep-in, keep-once}
 use Rattle.centroid.specs.Components.{componentOf}
 use Rattle.centroid.specs.Lists.{onward, onwards, Breadth}
-use Rattle.centroidlaws.proofs.Every.{both, both-passed}
+use Rattle.answers.specs.Choice.{both}
+use Rattle.answers.proofs.Choices.{both-passed}
 use Rattle.centroidlaws.proofs.Clear.{component-clear, clear-part}
 use Rattle.centroidlaws.proofs.Parents.{Decomposed}
 use Rattle.centroidlaws.proofs.Before.{Listed, Before, before, before-nearer, before-one, linked-in}
@@ -85,6 +86,31 @@ module _ {n : ℕ} {A : ℕ → List ℕ} {par dep : ℕ → ℕ} (T : Listed n 
       (λ s. let o = ap (λ (z : ℕ). count x (onward A (ptail par dep) C c z)) s ∙ lead-once hx e b in let t = tally-same y w s in omega arith)
       (λ d. let o = lead-none hx b (h .0) d in let t = tally-other y w d in omega arith)
 
+-- A list of which each entry is c, or another entry leads on to it.
+module _
+    {n : ℕ} {A : ℕ → List ℕ} {par dep : ℕ → ℕ} (T : Listed n A par dep) {C : ℕ → Bool} {c : ℕ} (K : Around n par dep C c)
+    (q : List ℕ) (led : (x : ℕ) → In x q → (x ≡ c) ⊎ ((y : ℕ) × In y q × In x (onward A (ptail par dep) C c y)))
+  where
+    -- an entry is a vertex if those nearer are
+    led-next : (x : ℕ) → ((y : ℕ) → length (ptail par dep c x) ≡ suc (length (ptail par dep c y)) → In y q → y < n) → In x q → x < n
+    led-next x nearer i =
+        ⊎-elim (λ s. subst (λ (z : ℕ). z < n) (sym s) (K .centre-below))
+        (λ r. let f = onward-in A (ptail par dep) C c (r .0) x (r .2) in
+        in-below n x (A (r .0)) (T .below (r .0) (nearer (r .0) (f .2) (r .1))) (f .0)) (led x i)
+
+    -- an entry at distance m is a vertex
+    led-at : (m x : ℕ) → length (ptail par dep c x) ≡ m → In x q → x < n
+    led-at zero x e i = led-next x (λ y d j. absurd (omega arith)) i
+    led-at (suc m) x e i = led-next x (λ y d j. led-at m y (omega arith) j) i
+
+    -- the entries are vertices
+    pub led-below : Below n q
+    led-below = below-all n q (λ x i. led-at (length (ptail par dep c x)) x refl i)
+
+    -- of the component
+    pub led-inside : (x : ℕ) → In x q → C x ≡ true
+    led-inside x i = ⊎-elim (λ s. ap C s ∙ K .centre) (λ r. onward-in A (ptail par dep) C c (r .0) x (r .2) .1) (led x i)
+
 module _
     {n : ℕ} {A : ℕ → List ℕ} {par dep : ℕ → ℕ} (T : Listed n A par dep) {C : ℕ → Bool} {c : ℕ} (K : Around n par dep C c)
     {q : List ℕ} (B : Breadth A (ptail par dep) C c q)
@@ -93,26 +119,13 @@ module _
     entry-from : (x : ℕ) → In x q → (x ≡ c) ⊎ ((y : ℕ) × In y q × In x (onward A (ptail par dep) C c y))
     entry-from x i = ⊎-elim inl (λ j. inr (onwards-in A (ptail par dep) C c q x j)) (subst (In x) B i)
 
-    -- an entry is a vertex if those nearer are
-    entry-next : (x : ℕ) → ((y : ℕ) → length (ptail par dep c x) ≡ suc (length (ptail par dep c y)) → In y q → y < n) → In x q → x < n
-    entry-next x nearer i =
-        ⊎-elim (λ s. subst (λ (z : ℕ). z < n) (sym s) (K .centre-below))
-        (λ r. let f = onward-in A (ptail par dep) C c (r .0) x (r .2) in
-        in-below n x (A (r .0)) (T .below (r .0) (nearer (r .0) (f .2) (r .1))) (f .0)) (entry-from x i)
-
-    -- an entry at distance m is a vertex
-    entry-below : (m x : ℕ) → length (ptail par dep c x) ≡ m → In x q → x < n
-    entry-below zero x e i = entry-next x (λ y d j. absurd (omega arith)) i
-    entry-below (suc m) x e i = entry-next x (λ y d j. entry-below m y (omega arith) j) i
-
     -- the entries are vertices
     pub entries-below : Below n q
-    entries-below = below-all n q (λ x i. entry-below (length (ptail par dep c x)) x refl i)
+    entries-below = led-below T K q entry-from
 
     -- an entry is in the component
     entry-inside : (x : ℕ) → In x q → C x ≡ true
-    entry-inside x i =
-        ⊎-elim (λ s. ap C s ∙ K .centre) (λ r. onward-in A (ptail par dep) C c (r .0) x (r .2) .1) (entry-from x i)
+    entry-inside = led-inside T K q entry-from
 
     -- c stands in it once, since nothing leads on to c
     centre-once : count c q ≡ 1
@@ -161,7 +174,7 @@ module _
     pub breadth-holds : Holds n C q
     breadth-holds = record {
       exactly = λ x. (
-        λ i. (entry-below (length (ptail par dep c x)) x refl i, entry-inside x i),
+        λ i. (in-below n x q entries-below i, entry-inside x i),
         λ h. count-in x q (let z = inside-once (length (ptail par dep c x)) (h .0) refl (h .1) in omega arith),
       );
       once = count-nodup q (λ x. by-cases (decLt x n)

@@ -13,7 +13,8 @@ use Rattle.numbering.specs.Log.{log2}
 use Rattle.numbering.proofs.Logs.{log2-greatest}
 use Rattle.centroid.specs.Components.{componentOf, inPart}
 use Rattle.centroid.specs.Decomposition.{DecompositionOf}
-use Rattle.centroidlaws.proofs.Every.{same-many, many-bound, many-some}
+use Rattle.sums.proofs.Images.{howMany-same}
+use Rattle.centroidlaws.proofs.Counting.{many-bound, many-some}
 use Rattle.centroidlaws.proofs.Parents.{Decomposed, decomposed}
 use Rattle.centroidlaws.proofs.Parts.{part-of-parent}
 
@@ -31,7 +32,7 @@ module _ {n : ℕ} {A : ℕ → List ℕ} {par dep up level : ℕ → ℕ} (D : 
       let o = P .one-up in
       let ne : c ≢ up c = λ e. (let z = ap level e in omega arith) in
       let h = D .centroids (up c) (P .parent-below) .centroid .halves c hc (P .inside) ne in
-      let s = same-many n (componentOf (ptail par dep) level c) (inPart (ptail par dep) C (up c) c) (P .part) in
+      let s = howMany-same n (componentOf (ptail par dep) level c) (inPart (ptail par dep) C (up c) c) (P .part) in
       omega arith
 
   -- 2 ^ k components of the size of one of level k fit into the tree

@@ -9,7 +9,7 @@ use mathlib.Core.List.{List}
 use Rattle.paths.specs.Rooted.{Rooted}
 use Rattle.paths.specs.Route.{ptail}
 use Rattle.centroid.specs.Components.{componentOf}
-use Rattle.centroidlaws.proofs.Every.{same-test, not-passed}
+use Rattle.answers.proofs.Choices.{same-test, not-passed}
 use Rattle.centroidlaws.proofs.Clear.{Clear, component-clear, clear-turn, clear-join, clear-last}
 use Rattle.centroidlaws.proofs.Parents.{Decomposed, Parent}
 use Rattle.centroidlaws.proofs.Parts.{one-of-level}
@@ -25,7 +25,7 @@ module _ {n : ℕ} {A : ℕ → List ℕ} {par dep up level : ℕ → ℕ} (D : 
 
   -- it lies in no other component of its own level
   pub only-own : {c x : ℕ} → c < n → x < n → c ≢ x → level x ≤ level c → componentOf (ptail par dep) level c x ≡ false
-  only-own {c} {x} hc hx ne h = not-passed (λ e.
+  only-own {c} {x} hc hx ne h = not-passed _ (λ e.
       let l = lower hc hx e in
       ne (one-of-level D hc hx refl (omega arith) (component-clear par dep level (level c) c x .0 e)))
 
@@ -35,8 +35,8 @@ module _ {n : ℕ} {A : ℕ → List ℕ} {par dep up level : ℕ → ℕ} (D : 
       → componentOf (ptail par dep) level c x ≡ componentOf (ptail par dep) level c (up x)
   as-parent {c} {x} hc hx ne P =
       elim (decLe (level x) (level c)) [
-        | yes h ↦ only-own hc hx ne h ∙ sym (not-passed (λ e. let l = lower hc (P .below) e in let o = P .one-up in omega arith))
-        | no h ↦ same-test
+        | yes h ↦ only-own hc hx ne h ∙ sym (not-passed _ (λ e. let l = lower hc (P .below) e in let o = P .one-up in omega arith))
+        | no h ↦ same-test _ _
             (λ e. pu .1 (clear-join R level (level c) hc hx (P .below) (px .0 e) (clear-turn R level (level c) (P .below) hx (low h))))
             (λ e. px .1 (clear-join R level (level c) hc (P .below) hx (pu .0 e) (low h)))
       ]

@@ -10,9 +10,10 @@ use lib.ListN.{length}
 use borrow.Author.Tests.{eqb-true}
 use Rattle.paths.specs.Walk.{In}
 use Rattle.paths.proofs.Listed.{in-right, in-either}
-use Rattle.numbering.proofs.Kept.{keep-in}
+use Rattle.paths.proofs.Kept.{keep-in}
 use Rattle.centroid.specs.Lists.{onward, onwards, Breadth}
-use Rattle.centroidlaws.proofs.Every.{both, both-parts}
+use Rattle.answers.specs.Choice.{both}
+use Rattle.answers.proofs.Choices.{both-true}
 
 -- a list in which nothing stands is empty
 empty : (l : List ℕ) → ((x : ℕ) → In x l → ⊥) → l ≡ []
@@ -31,7 +32,7 @@ module _ (A : ℕ → List ℕ) (way : ℕ → ℕ → List ℕ) (C : ℕ → Bo
   pub onward-in : (x y : ℕ) → In y (onward A way C c x) → In y (A x) × (C y ≡ true) × (length (way c y) ≡ suc (length (way c x)))
   onward-in x y i =
       let k = keep-in (λ y. both (C y) (eqb (length (way c y)) (suc (length (way c x))))) (A x) y .0 i in
-      let b = both-parts (C y) (eqb (length (way c y)) (suc (length (way c x)))) (k .1) in
+      let b = both-true (C y) (eqb (length (way c y)) (suc (length (way c x)))) (k .1) in
       (k .0, b .0, eqb-true (length (way c y)) (suc (length (way c x))) (b .1))
 
   -- what a list leads on to, one of its entries leads on to

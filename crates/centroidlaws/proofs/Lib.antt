@@ -1,4 +1,4 @@
-pub mod Every
+pub mod Counting
 pub mod Clear
 pub mod Centroid
 pub mod Parents

@@ -14,9 +14,10 @@ use Rattle.paths.specs.Rooted.{Spans}
 use Rattle.paths.specs.Route.{ptail}
 use Rattle.paths.proofs.Steps.{on-below}
 use Rattle.answers.specs.Limits.{noParent}
-use Rattle.centroid.specs.Components.{every, componentOf, inPart}
+use Rattle.centroid.specs.Components.{componentOf, inPart}
 use Rattle.centroid.specs.Decomposition.{Began, first, next, DecompositionOf}
-use Rattle.centroidlaws.proofs.Every.{both-parts, both-passed, every-entry, each-every, same-test}
+use Rattle.answers.specs.Choice.{all?}
+use Rattle.answers.proofs.Choices.{both-true, both-passed, all-in, in-all, same-test}
 use Rattle.centroidlaws.proofs.Clear.{Clear, component-clear, clear-turn, clear-join, clear-part, clear-last}
 use Rattle.centroidlaws.proofs.Parents.{Decomposed, Parent, decomposed, parent}
 use Rattle.centroidlaws.proofs.Agreement.{one-centroid}
@@ -57,7 +58,7 @@ module _ {n : ℕ} {A : ℕ → List ℕ} {par dep up level : ℕ → ℕ} (D : 
     parent-below = P .below;
     one-up = P .one-up;
     inside = component-clear par dep level (level p) p c .1 (P .clear);
-    part = λ x hx. same-test (to x hx) (back x hx);
+    part = λ x hx. same-test _ _ (to x hx) (back x hx);
   }
     where
       P : Parent n par dep up level c (parent D hc pos .0)
@@ -71,22 +72,22 @@ module _ {n : ℕ} {A : ℕ → List ℕ} {par dep up level : ℕ → ℕ} (D : 
           let cl = component-clear par dep level (level c) c x .0 e in
           let o = P .one-up in
           let low : Clear par dep level (level p) c x = λ y i. (let z = cl y i in omega arith) in
-          both-passed (componentOf (ptail par dep) level p x) (every (λ y. not (eqb y p)) (c ∷ ptail par dep c x))
+          both-passed (componentOf (ptail par dep) level p x) (all? (λ y. not (eqb y p)) (c ∷ ptail par dep c x))
           (component-clear par dep level (level p) p x .1 (clear-join (D .spans .rooted) level (level p) (P .below) hc hx (P .clear) low))
-          (each-every (λ y. not (eqb y p)) (c ∷ ptail par dep c x)
+          (in-all (λ y. not (eqb y p)) (c ∷ ptail par dep c x)
           (λ y i. ap not (ne-eqb y p (λ q. (let z = cl y i in let w = ap level q in omega arith)))))
 
       back : (x : ℕ) → x < n → inPart (ptail par dep) (componentOf (ptail par dep) level p) p c x ≡ true → componentOf (ptail par dep) level c x ≡ true
       back x hx e =
           let R = D .spans .rooted in
-          let h = both-parts (componentOf (ptail par dep) level p x) (every (λ y. not (eqb y p)) (c ∷ ptail par dep c x)) e in
+          let h = both-true (componentOf (ptail par dep) level p x) (all? (λ y. not (eqb y p)) (c ∷ ptail par dep c x)) e in
           let px = component-clear par dep level (level p) p x .0 (h .0) in
           let cx = clear-join R level (level p) hc (P .below) hx (clear-turn R level (level p) (P .below) hc (P .clear)) px in
           let o = P .one-up in
           component-clear par dep level (level c) c x .1 (λ y i.
           let hy = on-below R y hc hx i in
           let cy = clear-part R level (level p) hc hx cx y i in
-          let ne = eqb-false y p (not-true (eqb y p) (every-entry (λ y. not (eqb y p)) (c ∷ ptail par dep c x) (h .1) y i)) in
+          let ne = eqb-false y p (not-true (eqb y p) (all-in (λ y. not (eqb y p)) y (c ∷ ptail par dep c x) (h .1) i)) in
           let z = higher (P .below) hy (clear-join R level (level p) (P .below) hc hy (P .clear) cy) ne in
           omega arith)
 

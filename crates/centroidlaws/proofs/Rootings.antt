@@ -9,22 +9,17 @@ use lib.ListN.{length}
 use Rattle.sums.specs.Sum.{at}
 use Rattle.paths.specs.Walk.{In, Below}
 use Rattle.paths.specs.Route.{ptail}
-use Rattle.paths.proofs.Listed.{in-below}
-use Rattle.numbering.proofs.Kept.{keep-ext}
+use Rattle.paths.proofs.Listed.{in-below, map-same}
+use Rattle.paths.proofs.Kept.{keep-ext}
 use Rattle.centroid.specs.Components.{Ways, componentOf}
 use Rattle.centroid.specs.Decomposition.{DecompositionOf}
 use Rattle.centroid.specs.Lists.{onward, onwards, Breadth, branchOf, joined, ListsOf}
 use Rattle.centroid.proofs.Ways.{SameWay, SameSet, ways-same, component-same}
-use Rattle.centroidlaws.proofs.Every.{both}
+use Rattle.answers.specs.Choice.{both}
 use Rattle.centroidlaws.proofs.Parents.{decomposed}
 use Rattle.centroidlaws.proofs.Before.{Listed}
 use Rattle.centroidlaws.proofs.Entries.{component-around, entries-below}
 use Rattle.centroidlaws.proofs.SameLists.{joined-same}
-
--- numbers that agree on a list's entries are the same in order
-pub map-same : (f g : ℕ → ℕ) (l : List ℕ) → ((x : ℕ) → In x l → f x ≡ g x) → map f l ≡ map g l
-map-same f g [] h = refl
-map-same f g (x ∷ l) h = ap₂ _∷_ (h x (inl refl)) (map-same f g l (λ y i. h y (inr i)))
 
 module _
     {n : ℕ} (A : ℕ → List ℕ) (small : (u : ℕ) → u < n → Below n (A u))

@@ -11,7 +11,7 @@ use Rattle.paths.specs.Rooted.{Spans}
 use Rattle.paths.specs.Route.{ptail}
 use Rattle.centroid.specs.Components.{componentOf}
 use Rattle.centroid.specs.Decomposition.{DecompositionOf}
-use Rattle.centroidlaws.proofs.Every.{not-passed}
+use Rattle.answers.proofs.Choices.{not-passed}
 use Rattle.centroidlaws.proofs.Parents.{Decomposed, decomposed, parent}
 use Rattle.centroidlaws.proofs.Inside.{own, lower, only-own, as-parent}
 
@@ -26,7 +26,7 @@ module _ {n : ℕ} {A : ℕ → List ℕ} {par dep up level : ℕ → ℕ} (D : 
       let P = parent D hx (omega arith) .1 in
       let o = P .one-up in
       let ih = components-of k (P .below) (omega arith) in
-      let none : componentOf (ptail par dep) level x (up x) ≡ false = not-passed (λ q. let l = lower D hx (P .below) q in omega arith) in
+      let none : componentOf (ptail par dep) level x (up x) ≡ false = not-passed _ (λ q. let l = lower D hx (P .below) q in omega arith) in
       let a = ap tally none in
       let b = ap tally (own D hx) in
       sum-change n x 1 (λ c. tally (componentOf (ptail par dep) level c (up x))) (λ c. tally (componentOf (ptail par dep) level c x)) hx

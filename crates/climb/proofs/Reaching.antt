@@ -15,7 +15,7 @@ use Rattle.numbering.specs.Log.{log2}
 use Rattle.tables.specs.Tables.{Six, six}
 use Rattle.answers.specs.Choice.{pick, both}
 use Rattle.climb.specs.Sound.{sound?, Stood, On, Unsound, standOn, placeOf}
-use Rattle.climb.specs.Inner.{four, chained?, seated?, hangsFrom?, hangs?, above?, Reach, Stands, ReadsHead, ReachedOn, Rests, ReachedAbove, StoodOn, Seat, Leaves, Left}
+use Rattle.climb.specs.Inner.{four, chained?, seated?, hangsFrom?, hangs?, above?, Reach, StandAsks, ReadsHead, ReachedOn, Rests, ReachedAbove, StoodOn, Seat, LeaveAsks, Left}
 use Rattle.climb.specs.declared.places.Place.{Place}
 use Rattle.climb.specs.declared.places.Reached.{Reached}
 use Rattle.answers.proofs.Choices.{pick-same, pick-both, both-true}
@@ -73,7 +73,7 @@ module _ (P D H I : List ℕ) (x : ℕ) where
   reach-none e f = record { sound = e ∙ sym f; place = λ on. absurd (true≢false (sym on ∙ e)) }
 
 -- The ways out of `reach`.
-module _ {P D H I : List ℕ} {x : ℕ} (pre : Stands P D H I x) {r : Reached} (none : r .sound ≡ false) where
+module _ {P D H I : List ℕ} {x : ℕ} (pre : StandAsks P D H I x) {r : Reached} (none : r .sound ≡ false) where
   pub reach-deep : length P ≤ at D x → ReachedOn P D H I x r
   reach-deep h = reach-none P D H I x none (seat-deep P D H I x h)
 
@@ -81,7 +81,7 @@ module _ {P D H I : List ℕ} {x : ℕ} (pre : Stands P D H I x) {r : Reached} (
   reach-far h = reach-none P D H I x none (seat-far P D H I x h)
 
 -- Those of `stand`, by what was reached.
-module _ {P D H I : List ℕ} {x : ℕ} (pre : Stands P D H I x) {a : Reached} (reached : ReachedOn P D H I x a) where
+module _ {P D H I : List ℕ} {x : ℕ} (pre : StandAsks P D H I x) {a : Reached} (reached : ReachedOn P D H I x a) where
   pub stand-off : a .sound ≡ false → {r : Reached} → r .sound ≡ false → StoodOn P D H I x r
   stand-off e none o s =
       reach-none P D H I x none (sound-split (length P) (six P D H I o s) x ∙ rw (sym (reached .sound) ∙ e))
@@ -299,7 +299,7 @@ module _ {P D H I : List ℕ} {p : Place} (pre : Rests P D H I p) where
         }
 
 -- Those of `leave_chain`.
-module _ {P D H I : List ℕ} {p : Place} {left : ℕ} (pre : Leaves P D H I p left) {r : Reached} where
+module _ {P D H I : List ℕ} {p : Place} {left : ℕ} (pre : LeaveAsks P D H I p left) {r : Reached} where
   pub leave-late : r .sound ≡ false → log2 (length P) ≤ left → Left P D H I p left r
   leave-late none h = reach-none P D H I (p .up) none (rw (le-ltb left (log2 (length P)) h))
 

@@ -60,7 +60,7 @@ pub record Hangs (n : ℕ) (D I : List ℕ) : Type 0 where
   pub depth : length D ≡ n
   pub id : length I ≡ n
 
-pub record Stands (P D H I : List ℕ) (x : ℕ) : Type 0 where
+pub record StandAsks (P D H I : List ℕ) (x : ℕ) : Type 0 where
   pub even : Even P D H I
   pub vertex : x < length P
 
@@ -110,7 +110,7 @@ pub record Placed (n : ℕ) (D : List ℕ) (p : Place) : Type 0 where
   pub up-below : (p .up ≡ noParent → ⊥) → p .up < n
   pub up-depth : (p .up ≡ noParent → ⊥) → at D (p .up) + 1 ≡ p .top
 
-pub record Leaves (P D H I : List ℕ) (p : Place) (left : ℕ) : Type 0 where
+pub record LeaveAsks (P D H I : List ℕ) (p : Place) (left : ℕ) : Type 0 where
   pub rests : Rests P D H I p
   pub few : left < 64
 

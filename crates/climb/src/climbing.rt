@@ -5,7 +5,7 @@ use crate::places::Place;
 use crate::places::Reached;
 use crate::sound::nowhere;
 use crate::sound::reach_above;
-ghost use Rattle.climb.specs.Inner.{Leaves, Left, ClimbsFrom, ClimbedTo};
+ghost use Rattle.climb.specs.Inner.{LeaveAsks, Left, ClimbsFrom, ClimbedTo};
 
 // Leaves the chain of p for the head's parent, after its side has left `left` chains. One more may be left while n, halved that often, is 2 or
 // more: so at most the floor of log2 n are.
@@ -17,7 +17,7 @@ pub fn leave_chain(
     p: Place,
     left: usize,
 ) -> Reached
-    requires { ⌜ Leaves (now parent) (now depth) (now head) (now id) p left ⌝ }
+    requires { ⌜ LeaveAsks (now parent) (now depth) (now head) (now id) p left ⌝ }
     ensures { λ r. ⌜ Left (now (parent .entry)) (now (depth .entry)) (now (head .entry)) (now (id .entry)) p left r ⌝ }
 {
     if parent.len() >> left < 2 {

@@ -5,7 +5,7 @@ use crate::places::Reached;
 use answers::limits::NO_PARENT;
 ghost use mathlib.Core.Path.{_≡_};
 ghost use mathlib.Core.Bool.{false};
-ghost use Rattle.climb.specs.Inner.{hangs?, Hangs, Stands, ReadsHead, Rests, ReachedOn, ReachedAbove, StoodOn};
+ghost use Rattle.climb.specs.Inner.{hangs?, Hangs, StandAsks, ReadsHead, Rests, ReachedOn, ReachedAbove, StoodOn};
 
 // No place at all.
 pub fn nowhere() -> Reached
@@ -65,7 +65,7 @@ fn reach_at(
 
 // Reaches the vertex x: reads it and its head, and tests all that soundness asks but that the head hangs.
 pub fn reach(parent: &[u32], depth: &[u32], head: &[u32], id: &[u32], x: usize) -> Reached
-    requires { ⌜ Stands (now parent) (now depth) (now head) (now id) x ⌝ }
+    requires { ⌜ StandAsks (now parent) (now depth) (now head) (now id) x ⌝ }
     ensures { λ r. ⌜ ReachedOn (now (parent .entry)) (now (depth .entry)) (now (head .entry)) (now (id .entry)) x r ⌝ }
 {
     let d = depth[x] as usize;
@@ -119,7 +119,7 @@ pub fn hangs(n: usize, depth: &[u32], id: &[u32], p: Place) -> bool
 
 // Stands on the vertex x: reads it and its head, and tests that it is sound.
 pub fn stand(parent: &[u32], depth: &[u32], head: &[u32], id: &[u32], x: usize) -> Reached
-    requires { ⌜ Stands (now parent) (now depth) (now head) (now id) x ⌝ }
+    requires { ⌜ StandAsks (now parent) (now depth) (now head) (now id) x ⌝ }
     ensures { λ r. ⌜ StoodOn (now (parent .entry)) (now (depth .entry)) (now (head .entry)) (now (id .entry)) x r ⌝ }
 {
     let r = reach(parent, depth, head, id, x);

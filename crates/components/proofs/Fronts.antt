@@ -12,7 +12,7 @@ use lib.Seq.{sets, sets-eq, ext-getD, getD-drop, length-take-le}
 use borrow.Author.Tests.{eq-eqb, ne-eqb}
 use Rattle.graph.specs.Work.{Only}
 use Rattle.centroid.specs.Lists.{joined}
-use Rattle.centroid.specs.Calls.{Front}
+use Rattle.paths.specs.Lists.{front}
 use Rattle.centroidlaws.proofs.SameLists.{joined-same}
 use Rattle.components.proofs.Places.{sets-join}
 
@@ -54,12 +54,12 @@ front-next f q c l lent now now′ from e₁ e₂ e₃ =
     ∙ ap (sets lent 0) (sym (joined-next f q c l))
 
 -- a list written from the first place on is at the front
-pub sets-front : (l lent : List ℕ) → length l ≤ length lent → Front l lent (sets lent 0 l)
+pub sets-front : (l lent : List ℕ) → length l ≤ length lent → sets lent 0 l ≡ front l lent
 sets-front l lent h =
     sets-eq l lent 0 (omega arith) ∙ ap (λ (k : ℕ). l ++ drop k lent) (let e : 0 + length l ≡ length l = omega arith in e)
 
 -- the first k entries are at the front where only they were written
-pub only-front : (k : ℕ) {lent lent′ : List ℕ} → k ≤ length lent → Only 0 k lent lent′ → Front (take k lent′) lent lent′
+pub only-front : (k : ℕ) {lent lent′ : List ℕ} → k ≤ length lent → Only 0 k lent lent′ → lent′ ≡ front (take k lent′) lent
 only-front k {lent} {lent′} h o =
     let long = o .same-length in
     let a = length-drop k lent in

@@ -23,12 +23,13 @@ use Rattle.paths.proofs.Unique.{next-step}
 use Rattle.paths.proofs.Counted.{in-count, count-in, nodup-count, count-length}
 use Rattle.graph.specs.Lent.{listOf}
 use Rattle.graph.proofs.Neighbours.{list-below}
-use Rattle.numbering.proofs.Kept.{keep-ext}
-use Rattle.numbering.specs.RuleOne.{keep}
+use Rattle.paths.proofs.Kept.{keep-ext}
+use Rattle.paths.specs.Lists.{keep}
 use Rattle.centroid.specs.Components.{componentOf}
 use Rattle.centroid.specs.Lists.{onward, branchOf}
 use Rattle.centroid.specs.Search.{LentTree}
-use Rattle.centroidlaws.proofs.Every.{both, both-parts, both-passed, same-test}
+use Rattle.answers.specs.Choice.{both}
+use Rattle.answers.proofs.Choices.{both-true, both-passed, same-test}
 use Rattle.centroidlaws.proofs.Clear.{Linked, component-clear, link-path, clear-join, clear-link, clear-last}
 use Rattle.centroidlaws.proofs.Before.{Listed, before, before-nearer, before-one}
 use Rattle.components.specs.Entering.{leads, beyond}
@@ -131,7 +132,7 @@ module _ {n : ℕ} {A : ℕ → List ℕ} {par dep : ℕ → ℕ} (T : Listed n 
         let hy = in-below n y (A x) (T .below x hx) i in
         let l = T .spans .only x y hx hy i in
         let cx = component-clear par dep level (level c) c x .0 inside in
-        same-test
+        same-test _ _
         (λ e.
         let p = leads-parts level c (branchOf way x c) y e in
         let cy = clear-join R level (level c) hc hx hy cx (clear-link R level (level c) hx hy l (clear-last R level (level c) hc hx cx) (p .0)) in
@@ -139,7 +140,7 @@ module _ {n : ℕ} {A : ℕ → List ℕ} {par dep : ℕ → ℕ} (T : Listed n 
         (component-clear par dep level (level c) c y .1 cy)
         (eq-eqb (length (way c y)) (suc (length (way c x))) (farther hx hy l (p .1))))
         (λ e.
-        let b = both-parts (componentOf way level c y) (eqb (length (way c y)) (suc (length (way c x)))) e in
+        let b = both-true (componentOf way level c y) (eqb (length (way c y)) (suc (length (way c x)))) e in
         let far = eqb-true (length (way c y)) (suc (length (way c x))) (b .1) in
         leads-on level c (branchOf way x c) y (clear-last R level (level c) hc hy (component-clear par dep level (level c) c y .0 (b .0))) (not-back hx far))
 

@@ -14,7 +14,7 @@ use Rattle.graph.specs.Work.{Only, Zeroed}
 use Rattle.graph.proofs.Frames.{only-refl, only-trans, only-wider, only-set, at-set-same, at-set-other}
 use Rattle.centroid.specs.Regions.{startAt, parentAt, levelAt, removedFrom, queueFrom, regionsEnd, levelOfAt, workEnd}
 use Rattle.centroid.specs.Decomposition.{DecompositionOf}
-use Rattle.centroid.specs.Search.{LentTree, WalkAsks, Found}
+use Rattle.centroid.specs.Search.{LentTree, WalkAsks, CentroidFound}
 use Rattle.centroid.specs.Parting.{Parting, PartingIn, AddAsks, Added, RemoveAsks, DecomposeAsks}
 use Rattle.centroid.proofs.Living.{live-kept}
 use Rattle.centroid.proofs.Pending.{parting-few}
@@ -70,7 +70,7 @@ module _ {os ts : List ℕ} {n h t : ℕ} {w : List ℕ} (a : LevelAsks os ts n 
   pub level-searches : WalkAsks os ts n (at w (startAt n h)) w
   level-searches = take-asks asks
 
-  module _ {w₁ : List ℕ} {c : ℕ} (f : Found os ts n (at w (startAt n h)) w w₁ c) {w₂ : List ℕ} (M : Marks (removedFrom n) c w₁ w₂) where
+  module _ {w₁ : List ℕ} {c : ℕ} (f : CentroidFound os ts n (at w (startAt n h)) w w₁ c) {w₂ : List ℕ} (M : Marks (removedFrom n) c w₁ w₂) where
     -- the level is below n
     pub level-low : at w (levelAt n h) < n
     level-low = take-level asks f M

@@ -20,7 +20,7 @@ use Rattle.paths.proofs.Counted.{count-absent, count-length}
 use Rattle.centroid.specs.Lists.{onward, onwards, Breadth}
 use Rattle.centroidlaws.proofs.Before.{Listed, Before, before, before-nearer}
 use Rattle.centroidlaws.proofs.Layers.{onward-in, onwards-in, onwards-append}
-use Rattle.centroidlaws.proofs.Entries.{Around, below-all, lead-count}
+use Rattle.centroidlaws.proofs.Entries.{Around, below-all, lead-count, led-below, led-inside}
 use Rattle.components.proofs.Places.{in-front}
 
 -- q is c and what the first m entries of q lead on to
@@ -53,26 +53,13 @@ module _
     entry-from x i =
         ⊎-elim inl (λ j. let r = onwards-in A (ptail par dep) C c (take m q) x j in inr (r .0, in-front (r .0) m q (r .1), r .2)) (subst (In x) B i)
 
-    -- an entry is a vertex if those nearer are
-    entry-next : (x : ℕ) → ((y : ℕ) → length (ptail par dep c x) ≡ suc (length (ptail par dep c y)) → In y q → y < n) → In x q → x < n
-    entry-next x nearer i =
-        ⊎-elim (λ s. subst (λ (z : ℕ). z < n) (sym s) (K .centre-below))
-        (λ r. let f = onward-in A (ptail par dep) C c (r .0) x (r .2) in
-        in-below n x (A (r .0)) (T .below (r .0) (nearer (r .0) (f .2) (r .1))) (f .0)) (entry-from x i)
-
-    -- an entry at distance d is a vertex
-    entry-below : (d x : ℕ) → length (ptail par dep c x) ≡ d → In x q → x < n
-    entry-below zero x e i = entry-next x (λ y d j. absurd (omega arith)) i
-    entry-below (suc d) x e i = entry-next x (λ y f j. entry-below d y (omega arith) j) i
-
     -- the entries are vertices
     pub partly-below : Below n q
-    partly-below = below-all n q (λ x i. entry-below (length (ptail par dep c x)) x refl i)
+    partly-below = led-below T K q entry-from
 
     -- of the component
     pub partly-inside : (x : ℕ) → In x q → C x ≡ true
-    partly-inside x i =
-        ⊎-elim (λ s. ap C s ∙ K .centre) (λ r. onward-in A (ptail par dep) C c (r .0) x (r .2) .1) (entry-from x i)
+    partly-inside = led-inside T K q entry-from
 
     -- so are the first m entries
     front-below : Below n (take m q)

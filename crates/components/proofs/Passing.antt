@@ -5,7 +5,8 @@ use mathlib.Core.Logic.{_≢_}
 use mathlib.Core.Bool.{Bool, true, false, not}
 use lib.Dec.{eqb, leb}
 use borrow.Author.Tests.{le-leb, lt-leb, leb-true, eq-eqb, ne-eqb, eqb-false, not-true}
-use Rattle.centroidlaws.proofs.Every.{both, both-parts, both-passed}
+use Rattle.answers.specs.Choice.{both}
+use Rattle.answers.proofs.Choices.{both-true, both-passed}
 use Rattle.components.specs.Entering.{leads, beyond}
 
 module _ (level : ℕ → ℕ) (c back y : ℕ) where
@@ -24,7 +25,7 @@ module _ (level : ℕ → ℕ) (c back y : ℕ) where
   -- one that is entered passes both tests
   pub leads-parts : leads level c back y ≡ true → (level c ≤ level y) × (y ≢ back)
   leads-parts e =
-      let b = both-parts (leb (level c) (level y)) (not (eqb y back)) e in
+      let b = both-true (leb (level c) (level y)) (not (eqb y back)) e in
       (leb-true (level c) (level y) (b .0), eqb-false y back (not-true (eqb y back) (b .1)))
 
   -- the tests read two levels only

@@ -13,7 +13,7 @@ use Rattle.paths.proofs.Listed.{in-left}
 use Rattle.graph.specs.Work.{Only}
 use Rattle.graph.proofs.Frames.{only-refl, only-trans, only-set, at-set-same, at-set-other}
 use Rattle.centroid.specs.Regions.{queueFrom, metFrom, queueAt}
-use Rattle.centroidlaws.proofs.Rootings.{map-same}
+use Rattle.paths.proofs.Listed.{map-same}
 use Rattle.components.specs.Entering.{notes}
 
 -- two lists one behind the other

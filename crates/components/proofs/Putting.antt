@@ -12,7 +12,7 @@ use Rattle.graph.specs.Lent.{listOf}
 use Rattle.graph.specs.Work.{Only}
 use Rattle.graph.proofs.Frames.{only-refl, only-trans, only-set}
 use Rattle.graph.proofs.Neighbours.{entry-below}
-use Rattle.numbering.specs.RuleOne.{keep}
+use Rattle.paths.specs.Lists.{keep}
 use Rattle.centroid.specs.Regions.{queueFrom, metFrom, queueAt, levelOfAt}
 use Rattle.centroid.proofs.Adding.{rest-gone, rest-new}
 use Rattle.components.specs.Entering.{leads, levelIn, beyond, notes, EnterAsks, Entered, left, new, ledTo, ListAsks, Put, ListAnswers}

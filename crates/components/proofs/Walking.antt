@@ -16,7 +16,7 @@ use Rattle.graph.specs.Work.{Only}
 use Rattle.centroid.specs.Components.{componentOf}
 use Rattle.centroid.specs.Lists.{onward, branchOf}
 use Rattle.centroid.specs.Regions.{queueFrom, metFrom, queueAt, levelOfAt}
-use Rattle.centroidlaws.proofs.Every.{many-bound, many-some}
+use Rattle.centroidlaws.proofs.Counting.{many-bound, many-some}
 use Rattle.centroidlaws.proofs.Parents.{decomposed}
 use Rattle.centroidlaws.proofs.Before.{Listed}
 use Rattle.centroidlaws.proofs.Entries.{Around, component-around}

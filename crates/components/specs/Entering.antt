@@ -7,14 +7,15 @@ use lib.Dec.{eqb, leb}
 use lib.ListN.{length, set}
 use lib.Seq.{sets}
 use Rattle.sums.specs.Sum.{at}
+use Rattle.answers.specs.Choice.{both}
 use Rattle.graph.specs.Lent.{listOf}
-use Rattle.numbering.specs.RuleOne.{keep}
+use Rattle.paths.specs.Lists.{keep}
 use Rattle.centroid.specs.Regions.{queueAt, levelOfAt, workEnd}
 use Rattle.centroid.specs.Search.{LentTree}
 
 -- y is entered: its level is not below that of c, and it is not the vertex that led here
 abbrev pub leads : (level : ℕ → ℕ) → ℕ → ℕ → ℕ → Bool
-leads level c back y = elim (leb (level c) (level y)) [ true ↦ not (eqb y back) | false ↦ false ]
+leads level c back y = both (leb (level c) (level y)) (not (eqb y back))
 
 -- the levels by vertex in work
 abbrev pub levelIn : ℕ → List ℕ → ℕ → ℕ

@@ -16,7 +16,8 @@ use Rattle.graph.specs.Work.{Only}
 use Rattle.centroid.specs.Components.{componentOf}
 use Rattle.centroid.specs.Decomposition.{DecompositionOf}
 use Rattle.centroid.specs.Lists.{Breadth, branchOf, ListsOf}
-use Rattle.centroid.specs.Calls.{Front, four, FourOf, listTests}
+use Rattle.paths.specs.Lists.{front}
+use Rattle.centroid.specs.Calls.{four, FourOf, listTests}
 use Rattle.centroid.specs.Regions.{queueFrom, metFrom, workEnd}
 use Rattle.centroid.specs.Search.{LentTree}
 use Rattle.components.specs.Levels.{levelsIn, totalIn}
@@ -70,10 +71,10 @@ pub record AllListed (os ts : List ℕ) (n : ℕ) (vs ds bs ss w vs′ ds′ bs�
   pub l₃ : List ℕ
   pub l₄ : List ℕ
   pub lists : ListsOf n (listOf os ts) l₁ l₂ l₃ l₄
-  pub vertices : Front l₁ vs vs′
-  pub distances : Front l₂ ds ds′
-  pub branches : Front l₃ bs bs′
-  pub starts : Front l₄ ss ss′
+  pub vertices : vs′ ≡ front l₁ vs
+  pub distances : ds′ ≡ front l₂ ds
+  pub branches : bs′ ≡ front l₃ bs
+  pub starts : ss′ ≡ front l₄ ss
   pub only : Only (queueFrom n) (metFrom n) w w′
 
 -- the tests behind the limits and the room of work, that of the starts first, and the lists, with work still in use

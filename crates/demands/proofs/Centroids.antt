@@ -19,7 +19,8 @@ use Rattle.graph.specs.Lent.{vertices, listOf}
 use Rattle.centroid.specs.Components.{Ways, componentOf, inPart}
 use Rattle.centroid.specs.Decomposition.{DecompositionOf}
 use Rattle.centroid.specs.Lists.{branchOf, joined, ListsOf}
-use Rattle.centroid.specs.Calls.{decomposing, Decomposes, listing, Front, Lists}
+use Rattle.paths.specs.Lists.{front}
+use Rattle.centroid.specs.Calls.{decomposing, Decomposes, listing, Lists}
 use Rattle.centroid.proofs.Ways.{SameWay, span-ways, ways-same, component-same, part-same}
 use Rattle.centroidlaws.proofs.Before.{Listed}
 use Rattle.graph.proofs.Passed.{all-passed}
@@ -68,7 +69,7 @@ centroids {os} {ts} {up} {level} {w} p =
 module _
     {n : ℕ} {A : ℕ → List ℕ} {par dep : ℕ → ℕ} (few : n ≤ maxVertices) (T : Listed n A par dep)
     (vs ds bs ss : List ℕ) {vs′ ds′ bs′ ss′ l₁ l₂ l₃ l₄ : List ℕ} (L : ListsOf n A l₁ l₂ l₃ l₄)
-    (f₁ : Front l₁ vs vs′) (f₂ : Front l₂ ds ds′) (f₃ : Front l₃ bs bs′) (f₄ : Front l₄ ss ss′)
+    (f₁ : vs′ ≡ front l₁ vs) (f₂ : ds′ ≡ front l₂ ds) (f₃ : bs′ ≡ front l₃ bs) (f₄ : ss′ ≡ front l₄ ss)
   where
     -- the start of c is the length of the lists before it
     start-of : (c : ℕ) → c < n + 1 → at ss′ c ≡ length (joined (L .q) c)
@@ -81,7 +82,7 @@ module _
     start-next {c} h = start-of (c + 1) (omega arith) ∙ ap (λ (k : ℕ). length (joined (L .q) k)) (add-one c)
 
     -- the part of c in numbers that are made of the entries
-    made-part : (f : ℕ → ℕ → ℕ) (lent : List ℕ) {l lent′ : List ℕ} {c : ℕ} → c < n → l ≡ joined (λ c. map (f c) (L .q c)) n → Front l lent lent′
+    made-part : (f : ℕ → ℕ → ℕ) (lent : List ℕ) {l lent′ : List ℕ} {c : ℕ} → c < n → l ≡ joined (λ c. map (f c) (L .q c)) n → lent′ ≡ front l lent
         → slice (at ss′ c) (at ss′ (c + 1)) lent′ ≡ map (f c) (L .q c)
     made-part f lent {c = c} h e front =
         joined-part (λ c. map (f c) (L .q c)) n lent h e front

@@ -32,7 +32,8 @@ use Rattle.answers.specs.declared.answer.Listed.{Listed}
 use Rattle.answers.specs.declared.answer.Listed.the-variants.{Count, Refused as NotListed}
 use Rattle.records.specs.Records.{RecordedAs, recordAnswer}
 use Rattle.records.proofs.Reading.{records-one}
-use Rattle.centroid.specs.Calls.{Two, Four, Front, Lists}
+use Rattle.paths.specs.Lists.{front}
+use Rattle.centroid.specs.Calls.{Two, Four, Lists}
 use Rattle.centroidlaws.proofs.SameLists.{lists-even}
 use Rattle.centroidlaws.proofs.Determined.{decomposes-one, lists-call-one, listing-passed}
 use Rattle.demands.specs.Tests.{RangesAsked}
@@ -147,7 +148,7 @@ records-past (listed l) {lent} {left} {k} p =
     rw (c .0, c .1) (drop-at l (drop (length l) lent) (length l) refl)
 
 -- past a list at the front of a lent one
-front-past : (l lent : List ℕ) {lent′ : List ℕ} (k : ℕ) → Front l lent lent′ → length l ≡ k → drop k lent′ ≡ drop k lent
+front-past : (l lent : List ℕ) {lent′ : List ℕ} (k : ℕ) → lent′ ≡ front l lent → length l ≡ k → drop k lent′ ≡ drop k lent
 front-past l lent k f e = rw (f, ← e) (drop-at l (drop (length l) lent) (length l) refl)
 
 -- past the component lists

@@ -7,7 +7,7 @@ use lib.ListN.{length, drop}
 use lib.Seq.{slice, take-at, drop-at}
 use Rattle.sums.proofs.Sums.{equal-or-not}
 use Rattle.centroid.specs.Lists.{joined}
-use Rattle.centroid.specs.Calls.{Front}
+use Rattle.paths.specs.Lists.{front}
 
 -- the first c + 1 lists stand at the front of all
 joined-front : (f : ℕ → List ℕ) (c n : ℕ) → c < n → (r : List ℕ) × (joined f n ≡ joined f (suc c) ++ r)
@@ -21,7 +21,7 @@ joined-front f c (suc n) h =
 
 -- the c-th list is the part between the lengths of those before it and of those with it
 pub joined-part :
-    (f : ℕ → List ℕ) (n : ℕ) (lent : List ℕ) {l lent′ : List ℕ} {a b c : ℕ} → c < n → l ≡ joined f n → Front l lent lent′
+    (f : ℕ → List ℕ) (n : ℕ) (lent : List ℕ) {l lent′ : List ℕ} {a b c : ℕ} → c < n → l ≡ joined f n → lent′ ≡ front l lent
     → a ≡ length (joined f c) → b ≡ length (joined f (suc c)) → slice a b lent′ ≡ f c
 joined-part f n lent {l} {lent′} {a} {b} {c} h e front ea eb =
     let r = joined-front f c n h in

@@ -8,12 +8,12 @@ use mathlib.Core.List.{List, [], _∷_}
 use lib.Dec.{eqb, leb, ltb}
 use lib.ListN.{length}
 use borrow.Author.Tests.{ltb-true, lt-ltb, leb-true, leb-false, le-leb, eqb-true, eq-eqb}
-use Rattle.paths.specs.Walk.{In, Below}
+use Rattle.paths.specs.Walk.{Below}
 use Rattle.sums.specs.Sum.{at}
 use Rattle.numbering.specs.Log.{log2}
 use Rattle.answers.specs.Limits.{maxVertices, noParent}
 use Rattle.answers.specs.Codes.{badSize, noRoom, badVertex, badTable}
-use Rattle.answers.specs.Choice.{pick, both, all?}
+use Rattle.answers.specs.Choice.{pick, both}
 use Rattle.answers.specs.Asked.{lengths?, sized?, vertices?, askedOf}
 use Rattle.answers.specs.Answers.{answerCode, intervalCode, listedCode}
 use Rattle.answers.specs.declared.answer.Refusal.{Refusal}
@@ -24,7 +24,7 @@ use Rattle.answers.specs.declared.answer.Interval.{Interval}
 use Rattle.answers.specs.declared.answer.Interval.the-variants.{Between, Refused as NoInterval}
 use Rattle.answers.specs.declared.answer.Listed.{Listed}
 use Rattle.answers.specs.declared.answer.Listed.the-variants.{Count, Refused as NotListed}
-use Rattle.answers.proofs.Choices.{both-true}
+use Rattle.answers.proofs.Choices.{both-true, all-in, in-all}
 use Rattle.answers.proofs.Passed.{sizes}
 use Rattle.graph.specs.Judgement.{Test, test, First}
 use Rattle.tables.specs.Tables.{Six}
@@ -45,24 +45,15 @@ use Rattle.demands.specs.Tests.{Lengths, asking, answering, Queried, Que
 
 -- The tests 1 and 4 as they are computed, and what they say.
 
-each-of : (f : ℕ → Bool) (l : List ℕ) → all? f l ≡ true → (x : ℕ) → In x l → f x ≡ true
-each-of f [] e x h = absurd h
-each-of f (y ∷ l) e x (inl h) = ap f h ∙ both-true (f y) (all? f l) e .0
-each-of f (y ∷ l) e x (inr h) = each-of f l (both-true (f y) (all? f l) e .1) x h
-
-all-of : (f : ℕ → Bool) (l : List ℕ) → ((x : ℕ) → In x l → f x ≡ true) → all? f l ≡ true
-all-of f [] h = refl
-all-of f (y ∷ l) h = rw (h y (inl refl)) (all-of f l (λ x i. h x (inr i)))
-
 -- the tests of limits and lengths pass exactly if n is within its limits and every table has n entries
 pub sized-lengths : (n : ℕ) (ls : List ℕ) → sized? n ls ≡ true → Lengths n ls
 sized-lengths n ls e =
     let s = sizes n ls e in
-    record { some = s .some; few = s .few; same = λ l h. eqb-true l n (each-of (λ x. eqb x n) ls (s .same) l h) }
+    record { some = s .some; few = s .few; same = λ l h. eqb-true l n (all-in (λ x. eqb x n) l ls (s .same) h) }
 
 pub lengths-sized : (n : ℕ) (ls : List ℕ) → Lengths n ls → sized? n ls ≡ true
 lengths-sized n ls p =
-    rw (le-leb 1 n (p .some), le-leb n maxVertices (p .few)) (all-of (λ x. eqb x n) ls (λ l h. eq-eqb l n (p .same l h)))
+    rw (le-leb 1 n (p .some), le-leb n maxVertices (p .few)) (in-all (λ x. eqb x n) ls (λ l h. eq-eqb l n (p .same l h)))
 
 vertices-below : (n : ℕ) (vs : List ℕ) → vertices? n vs ≡ true → Below n vs
 vertices-below n [] e = tt

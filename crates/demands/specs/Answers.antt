@@ -76,8 +76,8 @@ pub record Reads (caller : Caller) (n : ℕ) (up level : List ℕ) : Type 0 wher
   pub level-read : {c : ℕ} → c < n → caller .number (readOf level up c) (at level c)
 
 -- "and a call returns that number for n from 1 to 32,768"
-abbrev pub Room : Caller → Type 0
-Room caller = (n : ℕ) → 1 ≤ n → n ≤ maxVertices → caller .number (rangeRoom n) (2 * log2 n + 1)
+abbrev pub RoomAnswer : Caller → Type 0
+RoomAnswer caller = (n : ℕ) → 1 ≤ n → n ≤ maxVertices → caller .number (rangeRoom n) (2 * log2 n + 1)
 
 -- "Tables that a build wrote never give 9.": no query, and no call for ranges
 pub record NoNine (t : Six) : Type 0 where

@@ -16,7 +16,7 @@ use Rattle.ranges.specs.Calls.{Answered}
 use Rattle.centroid.specs.Calls.{Decomposes}
 use Rattle.relaypath.specs.Handed.{Handed, HandedEnds}
 use Rattle.relaypath.specs.Listing.{HandedList}
-use Rattle.demands.specs.Answers.{Caller, Answers, Reads, Room}
+use Rattle.demands.specs.Answers.{Caller, Answers, Reads, RoomAnswer}
 
 -- the code is 0 and the number stands in `*answer`; the code is 10 and `*answer` is as it was; the code is 0 and the ends stand in `*start` and `*end`;
 -- where the list has room the code is 0, their number stands in `*count` and the ranges at the front of the list, the rest of which is as it was
@@ -48,6 +48,6 @@ pub record DemandsInC : Type 0 where
   -- and after a decomposition that answered 0, each read
   pub reads :
       {os ts up level w up′ level′ w′ : List ℕ} → Decomposes os ts up level w up′ level′ w′ done → Reads inC (vertices os) up′ level′
-  pub room : Room inC
+  pub room : RoomAnswer inC
   -- the codes are those of the answers, whose tests condition 1 has
   pub untouched : Untouched

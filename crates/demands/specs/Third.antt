@@ -26,7 +26,7 @@ use Rattle.answers.specs.declared.answer.Listed.{Listed}
 use Rattle.answers.specs.declared.answer.Listed.the-variants.{Count}
 use Rattle.records.specs.Records.{RecordedAs}
 use Rattle.demands.specs.Numbers.{OnPath}
-use Rattle.demands.specs.Answers.{inRattle, Room}
+use Rattle.demands.specs.Answers.{inRattle, RoomAnswer}
 
 -- l are the vertex ranges from u to v
 abbrev pub Ranges : Six → ℕ → ℕ → List PathRange → Type 0
@@ -81,7 +81,7 @@ pub record RangeRoom : Type 0 where
   -- floor(log2 n), whatever way it is computed
   pub floor-log2 : {n : ℕ} → 1 ≤ n → (2 ^ log2 n ≤ n) × (n < 2 ^ (log2 n + 1))
   pub enough : (kind : Kind) (t : Six) (u v : ℕ) (l : List PathRange) → rangesOf kind t u v ≡ listed l → length l ≤ 2 * log2 (sizeOf t) + 1
-  pub answer : Room inRattle
+  pub answer : RoomAnswer inRattle
 
 pub record ThirdDemand : Type 0 where
   -- "For tables built from an accepted tree": after every build that answered 0

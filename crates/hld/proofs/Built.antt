@@ -9,8 +9,9 @@ use Rattle.sums.specs.Sum.{at}
 use Rattle.paths.specs.Walk.{Below}
 use Rattle.paths.specs.Tree.{Tree}
 use Rattle.numbering.specs.Numbering.{total}
-use Rattle.numbering.proofs.Kept.{keep-ext}
-use Rattle.passes.specs.Passes.{from, run, heavyOf, region, Weighed, Ranked, WeighAsks, WeighAnswers, NumberAsks, NumberAnswers}
+use Rattle.paths.proofs.Kept.{keep-ext}
+use Rattle.passes.specs.Passes.{from, run, heavyOf, region, Weighed, WeighAsks, WeighAnswers}
+use Rattle.ranks.specs.Ranks.{Ranked, NumberAsks, NumberAnswers}
 use Rattle.passes.proofs.Runs.{from-in}
 use Rattle.visit.specs.Visit.{Visited, queueIn, upIn}
 use Rattle.visit.proofs.Positions.{Places, places, visited-same}

@@ -9,10 +9,10 @@ use Rattle.sums.proofs.Sums.{equal-or-not}
 use Rattle.paths.specs.Walk.{In}
 use Rattle.numbering.specs.Numbering.{total, Numbered}
 use Rattle.numbering.specs.RuleOne.{heaviest, without, byRuleOne}
-use Rattle.numbering.proofs.Kept.{without-same, without-other, total-reverse}
+use Rattle.numbering.proofs.ChildLists.{without-same, without-other, total-reverse}
 use Rattle.numbering.proofs.Heaviest.{heaviest-next, heaviest-stays, heaviest-in}
 use Rattle.numbering.proofs.Readings.{map-reverse}
-use Rattle.passes.specs.Passes.{Backwards}
+use Rattle.ranks.specs.Ranks.{Backwards}
 
 module _ (q s size : ℕ → ℕ) where
   -- the heaviest vertex stands at the heaviest position

@@ -12,10 +12,12 @@ use Rattle.sums.proofs.Sums.{equal-or-not}
 use Rattle.paths.specs.Walk.{In, NoDup, Below}
 use Rattle.paths.specs.Rooted.{Child}
 use Rattle.paths.specs.Route.{child?}
-use Rattle.paths.proofs.Listed.{in-below, at-in, nodup-at}
+use Rattle.paths.proofs.Listed.{in-below, at-in, nodup-at, map-same}
 use Rattle.paths.proofs.Rising.{Rises, above-in, above-of, rises-same}
-use Rattle.numbering.specs.RuleOne.{keep, childrenOf}
-use Rattle.numbering.proofs.Kept.{keep-in, keep-rises, child-true}
+use Rattle.paths.specs.Lists.{keep}
+use Rattle.numbering.specs.RuleOne.{childrenOf}
+use Rattle.paths.proofs.Kept.{keep-in, keep-rises}
+use Rattle.numbering.proofs.ChildLists.{child-true}
 use Rattle.passes.specs.Passes.{from, run}
 use Rattle.passes.proofs.Runs.{from-in, from-rises, keep-places}
 use Rattle.visit.specs.Visit.{Visited}
@@ -29,10 +31,6 @@ map-in f (z ∷ l) y (inr i) = (let r = map-in f l y i in (r .0, inr (r .1), r .
 pub in-map : (f : ℕ → ℕ) (l : List ℕ) (x : ℕ) → In x l → In (f x) (map f l)
 in-map f (z ∷ l) x (inl e) = inl (ap f e)
 in-map f (z ∷ l) x (inr i) = inr (in-map f l x i)
-
-pub map-same : (f h : ℕ → ℕ) (l : List ℕ) → ((x : ℕ) → In x l → f x ≡ h x) → map f l ≡ map h l
-map-same f h [] s = refl
-map-same f h (x ∷ l) s = ap₂ _∷_ (s x (inl refl)) (map-same f h l (λ y i. s y (inr i)))
 
 pub map-map : (f h : ℕ → ℕ) (l : List ℕ) → map f (map h l) ≡ map (λ x. f (h x)) l
 map-map f h [] = refl

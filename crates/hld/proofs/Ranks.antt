@@ -11,7 +11,8 @@ use Rattle.numbering.specs.Numbering.{Arrangement}
 use Rattle.numbering.specs.RuleOne.{childrenOf, byRuleOne}
 use Rattle.numbering.proofs.Subtrees.{id-injective}
 use Rattle.numbering.proofs.Whole.{id-below}
-use Rattle.passes.specs.Passes.{Weighed, Ranked}
+use Rattle.passes.specs.Passes.{Weighed}
+use Rattle.ranks.specs.Ranks.{Ranked}
 use Rattle.visit.specs.Visit.{Visited}
 use Rattle.visit.proofs.Positions.{Places}
 use Rattle.hld.proofs.Tabled.{Holds, table-arrangement}

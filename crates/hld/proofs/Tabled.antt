@@ -12,10 +12,12 @@ use Rattle.paths.proofs.Rising.{Rises, above-in}
 use Rattle.paths.proofs.Links.{tree-span}
 use Rattle.numbering.specs.Numbering.{total, Numbered, Arranged, Arrangement}
 use Rattle.numbering.specs.RuleOne.{heaviest, without, childrenOf, byRuleOne}
-use Rattle.numbering.proofs.Kept.{keep-once, children-in, without-total}
+use Rattle.paths.proofs.Kept.{keep-once}
+use Rattle.numbering.proofs.ChildLists.{children-in, without-total}
 use Rattle.numbering.proofs.Heaviest.{heaviest-in}
 use Rattle.numbering.proofs.ByRule.{HeadsBy, by-rule-in, by-rule-arranged}
-use Rattle.passes.specs.Passes.{run, heavyOf, Backwards, Weighed, Ranked}
+use Rattle.passes.specs.Passes.{run, heavyOf, Weighed}
+use Rattle.ranks.specs.Ranks.{Backwards, Ranked}
 use Rattle.visit.specs.Visit.{Visited}
 use Rattle.visit.proofs.Positions.{Places}
 use Rattle.hld.proofs.Children.{Reads, run-in, run-rises, children-run, map-in}

@@ -16,7 +16,8 @@ use Rattle.graph.proofs.Neighbours.{list-below}
 use Rattle.graph.proofs.Passed.{Sound, done-sound}
 use Rattle.validate.specs.Judged.{Judged}
 use Rattle.tables.specs.Tables.{Six}
-use Rattle.passes.specs.Passes.{WeighAsks, WeighAnswers, NumberAsks, NumberAnswers}
+use Rattle.passes.specs.Passes.{WeighAsks, WeighAnswers}
+use Rattle.ranks.specs.Ranks.{NumberAsks, NumberAnswers}
 use Rattle.scatter.specs.Scatter.{ScatterAsks, Filled}
 use Rattle.hld.specs.Steps.{BuildAsks, Built}
 use Rattle.hld.proofs.Built.{weigh-asks, number-asks, scatter-asks, tables-built}

@@ -9,7 +9,7 @@ use Rattle.paths.specs.Rooted.{Child}
 use Rattle.paths.proofs.Listed.{out-of}
 use Rattle.numbering.specs.Numbering.{total, Numbered, Light, Chained, Arranged}
 use Rattle.numbering.specs.RuleOne.{heaviest, without, byRuleOne}
-use Rattle.numbering.proofs.Kept.{without-in, without-once, without-total, reverse-in, reverse-once, total-reverse}
+use Rattle.numbering.proofs.ChildLists.{without-in, without-once, without-total, reverse-in, reverse-once, total-reverse}
 use Rattle.numbering.proofs.Heaviest.{heaviest-in, heaviest-most, heaviest-ext}
 
 -- the light children, in the order of their numbers, are all but the heaviest

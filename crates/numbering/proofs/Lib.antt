@@ -8,7 +8,7 @@ pub mod Climbs
 pub mod Leaves
 pub mod Readings
 pub mod Bounds
-pub mod Kept
+pub mod ChildLists
 pub mod Heaviest
 pub mod ByRule
 pub mod SameTree

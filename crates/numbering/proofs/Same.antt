@@ -15,7 +15,8 @@ use Rattle.numbering.specs.RuleOne.{childrenOf, byRuleOne}
 use Rattle.numbering.specs.Ruled.{Ruled}
 use Rattle.numbering.proofs.Tiles.{light-in}
 use Rattle.numbering.proofs.Sizes.{size-count, order-below, id-order}
-use Rattle.numbering.proofs.Kept.{keep-ext, child-true, children-in}
+use Rattle.paths.proofs.Kept.{keep-ext}
+use Rattle.numbering.proofs.ChildLists.{child-true, children-in}
 use Rattle.numbering.proofs.ByRule.{by-rule-in, by-rule-ext}
 use Rattle.numbering.proofs.SameTree.{same-child, same-anc}
 

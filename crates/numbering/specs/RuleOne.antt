@@ -2,15 +2,11 @@
 -- whole subtree of its heavy child, then those of its light children in REVERSE list order."
 use Prim.Native.Nat.{ℕ}
 use mathlib.Core.Path.{_≡_}
-use mathlib.Core.Bool.{Bool, true, false}
+use mathlib.Core.Bool.{true, false}
 use mathlib.Core.List.{List, [], _∷_, reverse}
 use lib.Dec.{ltb, eqb}
+use Rattle.paths.specs.Lists.{keep}
 use Rattle.paths.specs.Route.{child?}
-
--- the entries of a list that pass a test, in order
-abbrev pub keep : (ℕ → Bool) → List ℕ → List ℕ
-keep t [] = []
-keep t (x ∷ l) = elim (t x) [ true ↦ x ∷ keep t l | false ↦ keep t l ]
 
 -- the children of u in list order
 abbrev pub childrenOf : (A : ℕ → List ℕ) (par dep : ℕ → ℕ) → ℕ → List ℕ

@@ -5,18 +5,12 @@ use native.Mathlib.Decide.{decLt}
 use mathlib.Core.Path.{_≡_, refl, sym, ap, _∙_}
 use mathlib.Core.Logic.{_≢_, inl, inr, by-cases}
 use mathlib.Core.List.{List, [], _∷_}
-use borrow.Author.Tests.{lt-ltb, le-ltb}
 use Rattle.paths.specs.Walk.{In}
 use Rattle.numbering.specs.Numbering.{total}
 use Rattle.numbering.specs.RuleOne.{heaviest}
+use Rattle.numbering.proofs.Heaviest.{heaviest-next, heaviest-stays, heaviest-in, heaviest-ext}
 use Rattle.passes.specs.Passes.{heavyOf}
 use Rattle.passes.specs.Inner.{Heavier, alone, less, more}
-
-heaviest-greater : (s : ℕ → ℕ) (x y : ℕ) (l : List ℕ) → s x < s y → heaviest s x (y ∷ l) ≡ heaviest s y l
-heaviest-greater s x y l h = rw (lt-ltb (s x) (s y) h, heaviest)
-
-heaviest-less : (s : ℕ → ℕ) (x y : ℕ) (l : List ℕ) → s y ≤ s x → heaviest s x (y ∷ l) ≡ heaviest s x l
-heaviest-less s x y l h = rw (le-ltb (s x) (s y) h, heaviest)
 
 -- x in front of y and l is the heavy one unless one of them is greater
 record InFront (s : ℕ → ℕ) (x y : ℕ) (l : List ℕ) : Type 0 where
@@ -24,7 +18,7 @@ record InFront (s : ℕ → ℕ) (x y : ℕ) (l : List ℕ) : Type 0 where
   pub not-greater : s (heaviest s y l) ≤ s x → heaviest s x (y ∷ l) ≡ x
 
 in-front : (s : ℕ → ℕ) (x y : ℕ) (l : List ℕ) → InFront s x y l
-in-front s x y [] = record { greater = heaviest-greater s x y []; not-greater = heaviest-less s x y [] }
+in-front s x y [] = record { greater = heaviest-next s x y []; not-greater = heaviest-stays s x y [] }
 in-front s x y (z ∷ l) = one (in-front s x z l) (in-front s y z l)
   where
     one : InFront s x z l → InFront s y z l → InFront s x y (z ∷ l)
@@ -34,27 +28,17 @@ in-front s x y (z ∷ l) = one (in-front s x z l) (in-front s y z l)
         let m = fy .greater lt in
         let e = ap s m in
         record {
-          greater = λ h. by-cases (decLt (s x) (s y)) (λ b. heaviest-greater s x y (z ∷ l) b)
-              (λ b. heaviest-less s x y (z ∷ l) (omega arith) ∙ fx .greater (omega arith) ∙ sym m);
-          not-greater = λ h. heaviest-less s x y (z ∷ l) (omega arith) ∙ fx .not-greater (omega arith);
+          greater = λ h. by-cases (decLt (s x) (s y)) (λ b. heaviest-next s x y (z ∷ l) b)
+              (λ b. heaviest-stays s x y (z ∷ l) (omega arith) ∙ fx .greater (omega arith) ∙ sym m);
+          not-greater = λ h. heaviest-stays s x y (z ∷ l) (omega arith) ∙ fx .not-greater (omega arith);
         })
         (λ ge.
         let m = fy .not-greater (omega arith) in
         let e = ap s m in
         record {
-          greater = λ h. heaviest-greater s x y (z ∷ l) (omega arith);
-          not-greater = λ h. heaviest-less s x y (z ∷ l) (omega arith) ∙ fx .not-greater (omega arith);
+          greater = λ h. heaviest-next s x y (z ∷ l) (omega arith);
+          not-greater = λ h. heaviest-stays s x y (z ∷ l) (omega arith) ∙ fx .not-greater (omega arith);
         })
-
--- the heaviest is one of the list
-heaviest-in : (s : ℕ → ℕ) (x : ℕ) (l : List ℕ) → In (heaviest s x l) (x ∷ l)
-heaviest-in s x [] = inl refl
-heaviest-in s x (y ∷ l) = one (heaviest-in s x l) (heaviest-in s y l)
-  where
-    one : In (heaviest s x l) (x ∷ l) → In (heaviest s y l) (y ∷ l) → In (heaviest s x (y ∷ l)) (x ∷ (y ∷ l))
-    one ix iy =
-        by-cases (decLt (s x) (s y)) (λ b. rw (heaviest-greater s x y l b) (inr iy))
-        (λ b. rw (heaviest-less s x y l (omega arith)) (elim ix [ inl e ↦ inl e | inr i ↦ inr (inr i) ]))
 
 -- what holds of 0 and of all children holds of the heavy one
 pub heavy-all : (P : ℕ → Type 0) (s : ℕ → ℕ) (l : List ℕ) → P 0 → ((x : ℕ) → In x l → P x) → P (heavyOf s l)
@@ -71,21 +55,10 @@ heavy-front s j (x ∷ l) pos (alone z e) = absurd (pos (heaviest s x l) (heavie
 heavy-front s j (x ∷ l) pos (less nz h e) = e ∙ sym (in-front s j x l .greater h)
 heavy-front s j (x ∷ l) pos (more nz h e) = e ∙ sym (in-front s j x l .not-greater h)
 
-heaviest-same : (s s′ : ℕ → ℕ) (x : ℕ) (l : List ℕ) → ((y : ℕ) → In y (x ∷ l) → s′ y ≡ s y) → heaviest s′ x l ≡ heaviest s x l
-heaviest-same s s′ x [] h = refl
-heaviest-same s s′ x (y ∷ l) h =
-    let ex = h x (inl refl) in
-    let ey = h y (inr (inl refl)) in
-    let rx = heaviest-same s s′ x l (λ z i. h z (elim i [ inl e ↦ inl e | inr k ↦ inr (inr k) ])) in
-    let ry = heaviest-same s s′ y l (λ z i. h z (inr i)) in
-    by-cases (decLt (s x) (s y))
-    (λ b. heaviest-greater s′ x y l (omega arith) ∙ ry ∙ sym (heaviest-greater s x y l b))
-    (λ b. heaviest-less s′ x y l (omega arith) ∙ rx ∙ sym (heaviest-less s x y l (omega arith)))
-
 -- sizes that agree on the list have one heavy child
 pub heavy-same : (s s′ : ℕ → ℕ) (l : List ℕ) → ((y : ℕ) → In y l → s′ y ≡ s y) → heavyOf s′ l ≡ heavyOf s l
 heavy-same s s′ [] h = refl
-heavy-same s s′ (x ∷ l) h = heaviest-same s s′ x l h
+heavy-same s s′ (x ∷ l) h = heaviest-ext s′ s x l h
 
 -- and one total
 pub total-same : (s s′ : ℕ → ℕ) (l : List ℕ) → ((y : ℕ) → In y l → s′ y ≡ s y) → total s′ l ≡ total s l

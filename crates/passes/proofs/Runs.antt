@@ -12,8 +12,8 @@ use Rattle.sums.specs.Sum.{at}
 use Rattle.sums.proofs.Sums.{equal-or-not}
 use Rattle.paths.specs.Walk.{In}
 use Rattle.paths.proofs.Rising.{Rises, above-of}
-use Rattle.numbering.specs.RuleOne.{keep}
-use Rattle.numbering.proofs.Kept.{keep-true, keep-false, keep-in}
+use Rattle.paths.specs.Lists.{keep}
+use Rattle.paths.proofs.Kept.{keep-true, keep-false, keep-in}
 use Rattle.passes.specs.Passes.{from, runFrom, run}
 
 keep-append : (t : ℕ → Bool) (l m : List ℕ) → keep t (l ++ m) ≡ keep t l ++ keep t m

@@ -9,7 +9,7 @@ use Rattle.sums.proofs.Sums.{equal-or-not, sum-ext, sum-ones, sum-term, sum-cha
 use Rattle.paths.specs.Walk.{In}
 use Rattle.numbering.specs.Numbering.{total}
 use Rattle.passes.specs.Passes.{runFrom, heavyOf, Weighed}
-use Rattle.passes.specs.Inner.{Heavier, Handed}
+use Rattle.passes.specs.Inner.{Heavier, HandedOn}
 use Rattle.passes.proofs.Runs.{in-run, run-child, run-other, run-end}
 use Rattle.passes.proofs.Heavy.{heavy-all, heavy-front, heavy-same, total-same}
 
@@ -56,7 +56,7 @@ module _ {n : ℕ} {p s h : ℕ → ℕ} (j : ℕ) (g : Weighing n p s h (j + 1)
       let e : j + 1 ≡ suc j = omega arith in
       omega (arith, sum-term j u s b, g .all, ap (λ (k : ℕ). sum k s) e)
 
-  module _ {s′ h′ : ℕ → ℕ} (some : 1 ≤ j) (earlier : p j < j) (d : Handed n j (p j) s h s′ h′) where
+  module _ {s′ h′ : ℕ → ℕ} (some : 1 ≤ j) (earlier : p j < j) (d : HandedOn n j (p j) s h s′ h′) where
     -- the sizes from j on stay
     size-kept : (i x : ℕ) → In x (runFrom p n (j + 1) i) → s′ x ≡ s x
     size-kept i x r =

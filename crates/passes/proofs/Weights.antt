@@ -9,7 +9,7 @@ use Rattle.sums.proofs.Sums.{equal-or-not}
 use Rattle.graph.specs.Work.{Only}
 use Rattle.graph.proofs.Frames.{only-refl, only-trans, only-set, at-set-same, at-set-other}
 use Rattle.passes.specs.Passes.{region, WeighAsks, WeighAnswers}
-use Rattle.passes.specs.Inner.{StartAsks, StartAnswers, Heavier, alone, less, more, HandAsks, Handed, HandAnswers}
+use Rattle.passes.specs.Inner.{StartAsks, StartAnswers, Heavier, alone, less, more, HandAsks, HandedOn, HandAnswers}
 use Rattle.passes.proofs.Weighing.{Weighing, weighing-start, weighing-step, weighing-done, best-below, sizes-fit}
 
 -- the positions below j have the size 1 and no heavy child
@@ -140,7 +140,7 @@ module _ {n : ℕ} {w w₀ : List ℕ} (a : WeighAsks n w) (t : StartAnswers n w
           weighing = λ p same.
               (let e : region 1 n w₁ j ≡ p j = parent-now ∙ same j below in
               weighing-step j (g .weighing p same) some (subst (λ (u : ℕ). u < j) e earlier-now)
-              (subst (λ (u : ℕ). Handed n j u (region 2 n w₁) (region 3 n w₁) (region 2 n w₂) (region 3 n w₂)) e (d .handed)));
+              (subst (λ (u : ℕ). HandedOn n j u (region 2 n w₁) (region 3 n w₁) (region 2 n w₂) (region 3 n w₂)) e (d .handed)));
           only = only-trans (g .only) (d .only);
         }
 

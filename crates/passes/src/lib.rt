@@ -1,7 +1,8 @@
-// The passes of the build over the positions of a breadth-first visit. The children of a position stand together behind it, in list order, so
-// each pass reads memory in order and no list is read again. Work holds regions of n entries; which is which, the constants say.
-ghost use Rattle.passes.specs.Passes.{WeighAsks, WeighAnswers, NumberAsks, NumberAnswers, region};
-ghost use Rattle.passes.specs.Inner.{StartAsks, StartAnswers, HeavierAsks, Heavier, HandAsks, HandAnswers, PlaceAsks, Placed, OneAsks, Numbers};
+// The passes of the build over the positions of a breadth-first visit, and the first of them: sizes and heavy children. The children of a position stand
+// together behind it, in list order, so each pass reads memory in order and no list is read again. Work holds regions of n entries; which is which, the
+// constants say.
+ghost use Rattle.passes.specs.Passes.{WeighAsks, WeighAnswers, region};
+ghost use Rattle.passes.specs.Inner.{StartAsks, StartAnswers, HeavierAsks, Heavier, HandAsks, HandAnswers};
 
 // The vertices in the order of the visit: the queue stands at the front of work.
 pub const QUEUE: usize = 0;
@@ -71,50 +72,5 @@ pub fn weigh(n: usize, work: &mut [u32])
         left -= 1;
         let up = work[UP * n + left] as usize;
         weigh_one(n, left, up, work);
-    }
-}
-
-// Gives position j its number, its head and its depth; the numbers of its light children are to be given from `end` down.
-fn place(n: usize, j: usize, id: u32, end: u32, top: u32, deep: u32, work: &mut [u32])
-    requires { ⌜ PlaceAsks n j (now work) ⌝ }
-    ensures { λ r. ⌜ Placed n j id end top deep (now (work .entry)) (now (work .exit)) ⌝ }
-{
-    work[ID * n + j] = id;
-    work[END * n + j] = end;
-    work[TOP * n + j] = top;
-    work[DEEP * n + j] = deep;
-}
-
-// Numbers position j, whose parent is numbered: a heavy child next to its parent on the parent's chain, a light one at the end of what is left of
-// the parent's numbers, on a chain of its own.
-fn number_one(n: usize, j: usize, up: usize, work: &mut [u32])
-    requires { ⌜ OneAsks n j up (now work) ⌝ }
-    ensures { λ r. ⌜ Numbers n j up (now (work .entry)) (now (work .exit)) ⌝ }
-{
-    let size = work[SIZE * n + j];
-    let deep = work[DEEP * n + up] + 1;
-    if work[HEAVY * n + up] as usize == j {
-        let id = work[ID * n + up] + 1;
-        let top = work[TOP * n + up];
-        place(n, j, id, id + size, top, deep, work);
-        return;
-    }
-    let end = work[END * n + up];
-    work[END * n + up] = end - size;
-    place(n, j, end - size, end, j as u32, deep, work);
-}
-
-// Numbers, heads and depths of all positions, from the first position to the last.
-pub fn number(n: usize, work: &mut [u32])
-    requires { ⌜ NumberAsks n (now work) ⌝ }
-    ensures { λ r. ⌜ NumberAnswers n (now (work .entry)) (now (work .exit)) ⌝ }
-{
-    let all = work[SIZE * n];
-    place(n, 0, 0, all, 0, 0, work);
-    let mut j: usize = 1;
-    while j < n {
-        let up = work[UP * n + j] as usize;
-        number_one(n, j, up, work);
-        j += 1;
     }
 }

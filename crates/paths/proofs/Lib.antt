@@ -13,3 +13,4 @@ pub mod LinkTotal
 pub mod Common
 pub mod Hung
 pub mod Rising
+pub mod Kept

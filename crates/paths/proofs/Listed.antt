@@ -1,9 +1,9 @@
 -- Membership, repeats, bounds and walks: by the places of a list, and along lists that are joined.
 use Prim.Native.Nat.{ℕ, zero, suc, _<_}
 use native.Mathlib.Omega.{arith}
-use mathlib.Core.Path.{_≡_, refl, sym, ap, subst}
+use mathlib.Core.Path.{_≡_, refl, sym, ap, ap₂, subst}
 use mathlib.Core.Logic.{_⊎_, inl, inr, ⊎-elim}
-use mathlib.Core.List.{List, [], _∷_, _++_}
+use mathlib.Core.List.{List, [], _∷_, _++_, map}
 use lib.ListN.{length}
 use Rattle.sums.specs.Sum.{at}
 use Rattle.paths.specs.Walk.{In, Out, NoDup, Below, From}
@@ -93,3 +93,8 @@ nodup-at (x ∷ l) d zero zero hi hj e = refl
 nodup-at (x ∷ l) d zero (suc j) hi hj e = absurd (out-not x l (d .0) (subst (λ (y : ℕ). In y l) (sym e) (at-in l j (omega arith))))
 nodup-at (x ∷ l) d (suc i) zero hi hj e = absurd (out-not x l (d .0) (subst (λ (y : ℕ). In y l) e (at-in l i (omega arith))))
 nodup-at (x ∷ l) d (suc i) (suc j) hi hj e = ap suc (nodup-at l (d .1) i j (omega arith) (omega arith) e)
+
+-- functions that agree on a list map it to one
+pub map-same : (f g : ℕ → ℕ) (l : List ℕ) → ((x : ℕ) → In x l → f x ≡ g x) → map f l ≡ map g l
+map-same f g [] h = refl
+map-same f g (x ∷ l) h = ap₂ _∷_ (h x (inl refl)) (map-same f g l (λ y i. h y (inr i)))

@@ -14,7 +14,8 @@ use Rattle.paths.proofs.Listed.{in-below}
 use Rattle.answers.specs.Limits.{noParent}
 use Rattle.numbering.specs.Numbering.{total, Numbered, Light, Chained, Arranged}
 use Rattle.numbering.specs.RuleOne.{childrenOf}
-use Rattle.numbering.proofs.Kept.{keep-once, children-in}
+use Rattle.paths.proofs.Kept.{keep-once}
+use Rattle.numbering.proofs.ChildLists.{children-in}
 use Rattle.numbering.proofs.ByRule.{by-rule-in, by-rule-once}
 use Rattle.tables.specs.Tables.{Six, Long, TablesOf, kidsByRuleOne}
 use Rattle.hld.proofs.Meaning.{tables-one}

@@ -55,5 +55,5 @@ pub record Finds (P D H I O : List ℕ) (v : ℕ) : Type 0 where
   pub order : length O ≡ length P
   pub vertex : v < length P
 
-abbrev pub Found : (P D H I O : List ℕ) → ℕ → ℕ → Answer → Type 0
-Found P D H I O v k r = (s : List ℕ) → r ≡ ancestorIn (length P) (six P D H I O s) v k
+abbrev pub LookedUp : (P D H I O : List ℕ) → ℕ → ℕ → Answer → Type 0
+LookedUp P D H I O v k r = (s : List ℕ) → r ≡ ancestorIn (length P) (six P D H I O s) v k

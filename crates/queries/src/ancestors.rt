@@ -12,7 +12,7 @@ ghost use mathlib.Core.Path.{_≡_};
 ghost use Rattle.numbering.specs.Log.{log2};
 ghost use Rattle.tables.specs.Tables.{lent};
 ghost use Rattle.queries.specs.Queries.{kthAncestor};
-ghost use Rattle.queries.specs.Inner.{Looks, Looked, Rises, OneChain, Risen, Finds, Found};
+ghost use Rattle.queries.specs.Inner.{Looks, Looked, Rises, OneChain, Risen, Finds, LookedUp};
 
 // One chain of a lookup: it is done, or goes on at the place of the head's parent with fewer steps left.
 pub enum Chained {
@@ -109,7 +109,7 @@ pub fn ancestor_in(
     k: usize,
 ) -> Answer
     requires { ⌜ Finds (now parent) (now depth) (now head) (now id) (now order) v ⌝ }
-    ensures { λ r. ⌜ Found (now (parent .entry)) (now (depth .entry)) (now (head .entry)) (now (id .entry)) (now (order .entry)) v k r ⌝ }
+    ensures { λ r. ⌜ LookedUp (now (parent .entry)) (now (depth .entry)) (now (head .entry)) (now (id .entry)) (now (order .entry)) v k r ⌝ }
 {
     let p = reach(parent, depth, head, id, v);
     if !p.sound {

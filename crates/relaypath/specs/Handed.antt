@@ -20,15 +20,15 @@ restOf [] = []
 restOf (x ∷ xs) = xs
 
 -- the code of an answer, and its one value in the number lent
-pub record Given (number : ℕ) (values : List ℕ) (before after code : ℕ) : Type 0 where
+pub record HandedOver (number : ℕ) (values : List ℕ) (before after code : ℕ) : Type 0 where
   pub code-given : code ≡ number
   pub value-given : after ≡ firstOr before values
 
 abbrev pub Handed : Answer → ℕ → ℕ → ℕ → Type 0
-Handed a before after code = Given (answerCode a) (answerValues a) before after code
+Handed a before after code = HandedOver (answerCode a) (answerValues a) before after code
 
 abbrev pub HandedCount : Listed → ℕ → ℕ → ℕ → Type 0
-HandedCount l before after code = Given (listedCode l) (listedValues l) before after code
+HandedCount l before after code = HandedOver (listedCode l) (listedValues l) before after code
 
 -- the value fits a 32-bit number
 abbrev pub Small : Answer → Type 0

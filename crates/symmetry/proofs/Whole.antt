@@ -8,7 +8,7 @@ use lib.ListN.{length}
 use Rattle.sums.specs.Sum.{at}
 use Rattle.graph.specs.Work.{Only}
 use Rattle.graph.proofs.Frames.{only-trans, only-wider}
-use Rattle.symmetry.specs.Symmetry.{Asks, Answers}
+use Rattle.symmetry.specs.Symmetry.{SymmetryAsks, SymmetryAnswers}
 use Rattle.symmetry.specs.Inner.{Turns, Turned, turned, StartAnswers, TurnAsks, TurnAnswers, BackAsks, BackAnswers}
 use Rattle.symmetry.proofs.Lists.{lent-starts, lent-end, symmetric-turns, turns-symmetric}
 
@@ -23,7 +23,7 @@ even-to-turned n o X T t even v x hv hx = t v x hv hx ∙ even x v hx hv ∙ sym
 pub keeps-turned : (n base : ℕ) {w w′ : List ℕ} → Only base (base + n) w w′ → turned n base w ≡ turned n base w′
 keeps-turned n base k = fun-ext (λ p. sym (k .after (base + n + p) (omega arith)))
 
-module _ {os ts : List ℕ} {n base : ℕ} {w₀ w₁ : List ℕ} (a : Asks os ts n base w₀) (s₁ : StartAnswers os n base w₀ w₁) where
+module _ {os ts : List ℕ} {n base : ℕ} {w₀ w₁ : List ℕ} (a : SymmetryAsks os ts n base w₀) (s₁ : StartAnswers os n base w₀ w₁) where
   -- `turn` may be called
   pub to-turn : TurnAsks os ts n base w₁
   to-turn =
@@ -44,7 +44,7 @@ module _ {os ts : List ℕ} {n base : ℕ} {w₀ w₁ : List ℕ} (a : Asks os t
   only-turn t = only-trans (only-wider (omega arith) (omega arith) (s₁ .only)) (t .only)
 
   -- where it refuses, so does the test
-  pub first-refuses : {w₂ : List ℕ} {r : Bool} → TurnAnswers os ts n base w₁ w₂ r → r ≡ false → Answers os ts n base w₀ w₂ false
+  pub first-refuses : {w₂ : List ℕ} {r : Bool} → TurnAnswers os ts n base w₁ w₂ r → r ≡ false → SymmetryAnswers os ts n base w₀ w₂ false
   first-refuses t q =
       record {
         right = λ p. absurd (false≢true p);
@@ -70,7 +70,7 @@ module _ {os ts : List ℕ} {n base : ℕ} {w₀ w₁ : List ℕ} (a : Asks os t
         }
 
     -- and its answer is the test's
-    pub whole : {w₄ : List ℕ} {b : Bool} → BackAnswers os n base w₃ w₄ b → Answers os ts n base w₀ w₄ b
+    pub whole : {w₄ : List ℕ} {b : Bool} → BackAnswers os n base w₃ w₄ b → SymmetryAnswers os ts n base w₀ w₄ b
     whole back =
         record {
           right = λ p. turns-symmetric (a .size) (a .offsets) (even-from-turned n (at os) (at ts) (turned n base w₃) (turned₃ .counts) (back .right p));

@@ -8,7 +8,7 @@ use lib.Dec.{eqb}
 use lib.ListN.{length}
 use Rattle.sums.specs.Sum.{at, tally, sum}
 use Rattle.graph.specs.Work.{Only}
-use Rattle.symmetry.specs.Symmetry.{Asks}
+use Rattle.symmetry.specs.Symmetry.{SymmetryAsks}
 
 -- how often v stands among the entries from a up to b
 unfoldable pub part : (ℕ → ℕ) → ℕ → ℕ → ℕ → ℕ
@@ -78,7 +78,7 @@ pub record StartAnswers (os : List ℕ) (n base : ℕ) (w w′ : List ℕ) : Typ
 
 -- `turn`: sound lists, and each cursor at its start
 pub record TurnAsks (os ts : List ℕ) (n base : ℕ) (w : List ℕ) : Type 0 where
-  pub asks : Asks os ts n base w
+  pub asks : SymmetryAsks os ts n base w
   pub at-start : AtStart os n base w
 
 -- the lists are turned, or they are not symmetric

@@ -9,7 +9,7 @@ use Rattle.graph.specs.Lent.{vertices, listOf, Offsets, Targets}
 use Rattle.graph.specs.Work.{Only}
 
 -- a graph of n vertices with sound offsets and targets, and n + E entries of work from index base on
-pub record Asks (os ts : List ℕ) (n base : ℕ) (w : List ℕ) : Type 0 where
+pub record SymmetryAsks (os ts : List ℕ) (n base : ℕ) (w : List ℕ) : Type 0 where
   pub size : n ≡ vertices os
   pub some-vertex : 1 ≤ n
   pub small : n < 2 ^ 32
@@ -18,7 +18,7 @@ pub record Asks (os ts : List ℕ) (n base : ℕ) (w : List ℕ) : Type 0 where
   pub room : base + n + length ts ≤ length w
 
 -- the answer is whether the lists are symmetric; only those entries of work were written
-pub record Answers (os ts : List ℕ) (n base : ℕ) (w w′ : List ℕ) (r : Bool) : Type 0 where
+pub record SymmetryAnswers (os ts : List ℕ) (n base : ℕ) (w w′ : List ℕ) (r : Bool) : Type 0 where
   pub right : r ≡ true → Symmetric n (listOf os ts)
   pub wrong : r ≡ false → Symmetric n (listOf os ts) → ⊥
   pub only : Only base (base + n + length ts) w w′

@@ -1,7 +1,7 @@
 // 01, code 6: whether each v stands in u's list as often as u in v's, in time linear in n + E on every input. The lists are turned
 // round twice: turned once they hold, for each x, the vertices u in whose lists x stands, in ascending order; turned again they must
 // give the same lists.
-ghost use Rattle.symmetry.specs.Symmetry.{Asks, Answers};
+ghost use Rattle.symmetry.specs.Symmetry.{SymmetryAsks, SymmetryAnswers};
 ghost use Rattle.symmetry.specs.Inner.{StartAsks, StartAnswers, TurnAsks, TurnAnswers, BackAsks, BackAnswers};
 
 // Sets the cursor of each vertex to the start of its list. The cursors are the n entries of work from base on.
@@ -69,8 +69,8 @@ fn turn_back(offsets: &[u32], n: usize, base: usize, work: &mut [u32]) -> bool
 
 // Whether the lists are symmetric.
 pub fn symmetric(offsets: &[u32], targets: &[u32], n: usize, base: usize, work: &mut [u32]) -> bool
-    requires { ⌜ Asks (now offsets) (now targets) n base (now work) ⌝ }
-    ensures { λ r. ⌜ Answers (now (offsets .entry)) (now (targets .entry)) n base (now (work .entry)) (now (work .exit)) r ⌝ }
+    requires { ⌜ SymmetryAsks (now offsets) (now targets) n base (now work) ⌝ }
+    ensures { λ r. ⌜ SymmetryAnswers (now (offsets .entry)) (now (targets .entry)) n base (now (work .entry)) (now (work .exit)) r ⌝ }
 {
     start_cursors(offsets, n, base, work);
     if !turn(offsets, targets, n, base, work) {

@@ -7,7 +7,8 @@ use mathlib.Core.List.{List}
 use lib.ListN.{length, take, drop, length-drop}
 use Rattle.treefile.specs.declared.judge.Shape.{Shape}
 use Rattle.treefile.specs.File.{numbers, Parsed, badFile, file, parseAs}
-use Rattle.treefile.specs.Parsing.{shapeOf, front, Buffers, Parses}
+use Rattle.paths.specs.Lists.{front}
+use Rattle.treefile.specs.Parsing.{shapeOf, Buffers, Parses}
 use Rattle.treefile.specs.Sections.{Copies, copied, TreeCopies, TreeCopied}
 use Rattle.treefile.proofs.FileNumbers.{copy-front}
 use Rattle.treefile.proofs.Places.{Layout}

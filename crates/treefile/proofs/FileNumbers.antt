@@ -11,7 +11,7 @@ use Rattle.sums.specs.Sum.{at}
 use Rattle.treefile.specs.declared.words.Width.{Width}
 use Rattle.treefile.specs.declared.words.Width.the-variants.{Narrow, Wide}
 use Rattle.treefile.specs.File.{littleEndian, numbersIn, numbers}
-use Rattle.treefile.specs.Parsing.{front}
+use Rattle.paths.specs.Lists.{front}
 use Rattle.treefile.specs.Sections.{bytesIn, Little, Number, Copies, copied}
 
 in-length : (k w : ℕ) (l : List ℕ) → length (numbersIn k w l) ≡ k

@@ -4,6 +4,7 @@ use mathlib.Core.Path.{_≡_}
 use mathlib.Core.Bool.{true, false}
 use mathlib.Core.List.{List, [], _∷_, _++_}
 use lib.ListN.{length, drop}
+use Rattle.paths.specs.Lists.{front}
 use Rattle.treefile.specs.declared.judge.Shape.{Shape}
 use Rattle.treefile.specs.File.{Query, Parsed, badFile, file, parseAs, maxOffsets, maxFileTargets, maxQueries}
 
@@ -29,10 +30,6 @@ queryNumbers (q ∷ qs) = q .kind ∷ q .a ∷ q .b ∷ q .c ∷ queryNumbers qs
 abbrev pub queriesOf : Parsed → List ℕ
 queriesOf badFile = []
 queriesOf (file f) = queryNumbers (f .queries)
-
--- the first entries are those of s, the rest is unchanged
-abbrev pub front : List ℕ → List ℕ → List ℕ
-front s lent = s ++ drop (length s) lent
 
 -- the buffers hold any well-formed file
 pub record Buffers (os ts qs : List ℕ) : Type 0 where

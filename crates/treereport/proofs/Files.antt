@@ -12,7 +12,8 @@ use Rattle.tables.specs.Tables.{Six, six}
 use Rattle.treefile.specs.declared.judge.Shape.{Shape}
 use Rattle.treefile.specs.File.{Query, TreeFile, numbers, narrow, Parsed, badFile, file, parseFile, maxOffsets, maxFileTargets, maxQueries}
 use Rattle.treefile.specs.Report.{badReport}
-use Rattle.treefile.specs.Parsing.{shapeOf, offsetsOf, targetsOf, queriesOf, queryNumbers, front, Buffers, Parses}
+use Rattle.paths.specs.Lists.{front}
+use Rattle.treefile.specs.Parsing.{shapeOf, offsetsOf, targetsOf, queriesOf, queryNumbers, Buffers, Parses}
 use Rattle.treefile.specs.Writing.{Puts}
 use Rattle.treefile.proofs.FileNumbers.{numbers-length}
 use Rattle.treefile.proofs.Places.{Layout, layout-of, left-bad}

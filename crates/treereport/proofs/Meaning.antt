@@ -15,7 +15,7 @@ use Rattle.tables.specs.Tables.{Six, TablesOf}
 use Rattle.hld.proofs.Meaning.{tables-one}
 use Rattle.treefile.specs.File.{TreeFile, Parsed, badFile, file, parseFile}
 use Rattle.treefile.specs.Report.{decimal, newline, fields, treeWord, treeLine, queryLines, badReport, fileReport, report}
-use Rattle.treefile.specs.Parsing.{front}
+use Rattle.paths.specs.Lists.{front}
 use Rattle.treefile.specs.Inputs.{Holds}
 use Rattle.treefile.proofs.Report.{tree-refused, tree-built}
 use Rattle.treefile.proofs.Inputs.{holds-read, none-bad}

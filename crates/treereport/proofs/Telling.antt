@@ -15,7 +15,7 @@ use Rattle.treefile.specs.File.{TreeFile, file, maxQueries}
 use Rattle.treefile.specs.Report.{treeLine, queryLines, fileReport}
 use Rattle.treefile.specs.Flat.{ShortLists}
 use Rattle.treefile.specs.Sizes.{fileRanges, rangeDigits, reportSize}
-use Rattle.treefile.specs.Parsing.{front}
+use Rattle.paths.specs.Lists.{front}
 use Rattle.treefile.specs.Writing.{Room, Puts}
 use Rattle.treefile.proofs.Writing.{puts-then, puts-as, room-then}
 use Rattle.treefile.proofs.Report.{tree-line-room, report-room}

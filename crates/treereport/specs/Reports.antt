@@ -10,7 +10,7 @@ use Rattle.graph.specs.Validation.{Sized, graphTests}
 use Rattle.tables.specs.Tables.{Six, TablesOf}
 use Rattle.treefile.specs.File.{TreeSections, TreeFile, Parsed, file, parseFile}
 use Rattle.treefile.specs.Report.{report}
-use Rattle.treefile.specs.Parsing.{front}
+use Rattle.paths.specs.Lists.{front}
 
 -- bytes that hold every report
 unfoldable pub reportRoom : ℕ

@@ -18,9 +18,8 @@ use Rattle.graph.specs.Work.{Only}
 use Rattle.graph.proofs.Frames.{only-refl, only-trans, only-wider}
 use Rattle.answers.proofs.Bounds.{vertices-small}
 use Rattle.graph.proofs.Neighbours.{entries-all, list-below}
-use Rattle.symmetry.specs.Symmetry as symmetry
-use Rattle.visit.specs.Visit as visiting
-use Rattle.visit.specs.Visit.{Visited, queueIn, upIn}
+use Rattle.symmetry.specs.Symmetry.{SymmetryAsks, SymmetryAnswers}
+use Rattle.visit.specs.Visit.{VisitAsks, VisitAnswers, Visited, queueIn, upIn}
 use Rattle.visit.proofs.Positions.{places, visit-rooted, visit-held, listed-back, back-listed, visit-reaches, visit-few, visit-all, visited-same}
 use Rattle.visit.proofs.Edges.{tree-entries, symmetric-back, entries-tree}
 use Rattle.validate.specs.Judged.{Judged}
@@ -50,7 +49,7 @@ module _ (os ts : List ℕ) (root : ℕ) (w : List ℕ) (a : Begun os ts w) wher
       bad-root h = refused (λ e. omega arith) (inr (O, inr (T, inl (λ k. omega arith, refl)))) untouched
 
       module _ (hr : root < vertices os) where
-        pub visit-asks : visiting.Asks os ts (vertices os) 0 root w
+        pub visit-asks : VisitAsks os ts (vertices os) 0 root w
         visit-asks =
             record {
               size = refl;
@@ -61,7 +60,7 @@ module _ (os ts : List ℕ) (root : ℕ) (w : List ℕ) (a : Begun os ts w) wher
               room = (let r = a .room in omega arith);
             }
 
-        module _ (w₁ : List ℕ) (t : ℕ) (v : visiting.Answers os ts (vertices os) 0 root w w₁ t) where
+        module _ (w₁ : List ℕ) (t : ℕ) (v : VisitAnswers os ts (vertices os) 0 root w w₁ t) where
           only-visit : Only 0 (roomOf os ts) w w₁
           only-visit = only-wider (omega arith) (omega arith) (v .only)
 
@@ -125,7 +124,7 @@ module _ (os ts : List ℕ) (root : ℕ) (w : List ℕ) (a : Begun os ts w) wher
                     let pl = places vis .1 in
                     entries-tree (listOf os ts) (visit-rooted vis pl) (visit-held vis pl) (list-below os ts O T) (listed-back vis pl l) (entries-all os ts O ∙ c .1)
 
-          pub symmetric-asks : symmetry.Asks os ts (vertices os) (7 * vertices os) w₁
+          pub symmetric-asks : SymmetryAsks os ts (vertices os) (7 * vertices os) w₁
           symmetric-asks =
               record {
                 size = refl;
@@ -137,7 +136,7 @@ module _ (os ts : List ℕ) (root : ℕ) (w : List ℕ) (a : Begun os ts w) wher
               }
 
           -- other counts than a tree's: the tests 6 to 8 in order
-          module _ (nc : TreeCounts (vertices os) t (length ts) → ⊥) (w₂ : List ℕ) (b : Bool) (s : symmetry.Answers os ts (vertices os) (7 * vertices os) w₁ w₂ b) where
+          module _ (nc : TreeCounts (vertices os) t (length ts) → ⊥) (w₂ : List ℕ) (b : Bool) (s : SymmetryAnswers os ts (vertices os) (7 * vertices os) w₁ w₂ b) where
             only-both : Only 0 (roomOf os ts) w w₂
             only-both = only-trans only-visit (only-wider (omega arith) (omega arith) (s .only))
 

@@ -11,7 +11,7 @@ use Rattle.graph.specs.Lent.{listOf}
 use Rattle.graph.specs.Work.{Only, Zeroed}
 use Rattle.graph.specs.Marks.{markOf}
 use Rattle.graph.proofs.Frames.{only-refl, only-trans, only-wider}
-use Rattle.visit.specs.Visit.{Asks, Answers}
+use Rattle.visit.specs.Visit.{VisitAsks, VisitAnswers}
 use Rattle.visit.specs.Steps.{SeenIn, Meets, Met, old, new, ListAsks, ListAnswers}
 use Rattle.visit.proofs.Growing.{seen-start, seen-next, seen-done}
 use Rattle.visit.proofs.Looking.{new-queue, new-marks, new-only, entries}
@@ -31,7 +31,7 @@ pub record Going (os ts : List ℕ) (n base root : ℕ) (w₀ w : List ℕ) (i t
   pub seen : SeenIn os ts n base root w i 0 t
   pub only : Only base (base + 3 * n) w₀ w
 
-module _ (os ts : List ℕ) (n base root : ℕ) (w : List ℕ) (a : Asks os ts n base root w) where
+module _ (os ts : List ℕ) (n base root : ℕ) (w : List ℕ) (a : VisitAsks os ts n base root w) where
   -- the root can be met
   pub root-asks : {w₁ : List ℕ} → Zeroed (base + 2 * n) (base + 2 * n + n / 32 + 1) w w₁ → Meets n base root 0 0 w₁
   root-asks z =
@@ -90,7 +90,7 @@ module _ (os ts : List ℕ) (n base root : ℕ) (w : List ℕ) (a : Asks os ts n
           only = only-trans (g .only) (b .only);
         }
 
-    pub going-done : {v : List ℕ} {i t : ℕ} → Only base (base + 3 * n) w w₀ → Going os ts n base root w₀ v i t → i ≡ t → Answers os ts n base root w v t
+    pub going-done : {v : List ℕ} {i t : ℕ} → Only base (base + 3 * n) w w₀ → Going os ts n base root w₀ v i t → i ≡ t → VisitAnswers os ts n base root w v t
     going-done o g e =
         record {
           place = g .seen .place;

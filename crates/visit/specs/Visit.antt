@@ -31,7 +31,7 @@ abbrev pub upIn : List ℕ → ℕ → ℕ → ℕ → ℕ
 upIn w n base j = at w (base + n + j)
 
 -- a graph of n vertices with sound offsets and targets, a root among them, and 3n entries of work from index base on
-pub record Asks (os ts : List ℕ) (n base root : ℕ) (w : List ℕ) : Type 0 where
+pub record VisitAsks (os ts : List ℕ) (n base root : ℕ) (w : List ℕ) : Type 0 where
   pub size : n ≡ vertices os
   pub small : n < 2 ^ 32
   pub offsets : Offsets os ts
@@ -40,7 +40,7 @@ pub record Asks (os ts : List ℕ) (n base root : ℕ) (w : List ℕ) : Type 0 w
   pub room : base + 3 * n ≤ length w
 
 -- t vertices were met, the visit stands in work, and only those entries of work were written
-pub record Answers (os ts : List ℕ) (n base root : ℕ) (w w′ : List ℕ) (t : ℕ) : Type 0 where
+pub record VisitAnswers (os ts : List ℕ) (n base root : ℕ) (w w′ : List ℕ) (t : ℕ) : Type 0 where
   pub place : ℕ → ℕ
   pub visited : Visited n (listOf os ts) root (queueIn w′ base) (upIn w′ n base) place t
   pub only : Only base (base + 3 * n) w w′

@@ -5,7 +5,7 @@ use graph::marks::mark;
 use graph::marks::marked;
 use graph::work::zero;
 ghost use Prim.Native.Nat.{_+_};
-ghost use Rattle.visit.specs.Visit.{Asks, Answers};
+ghost use Rattle.visit.specs.Visit.{VisitAsks, VisitAnswers};
 ghost use Rattle.visit.specs.Steps.{Meets, Met, ListAsks, ListAnswers};
 
 // Meets x from position i: where it is not marked, marks it and puts it into the queue. Answers how many are met.
@@ -56,8 +56,8 @@ pub fn visit(
     root: usize,
     work: &mut [u32],
 ) -> usize
-    requires { ⌜ Asks (now offsets) (now targets) n base root (now work) ⌝ }
-    ensures { λ r. ⌜ Answers (now (offsets .entry)) (now (targets .entry)) n base root (now (work .entry)) (now (work .exit)) r ⌝ }
+    requires { ⌜ VisitAsks (now offsets) (now targets) n base root (now work) ⌝ }
+    ensures { λ r. ⌜ VisitAnswers (now (offsets .entry)) (now (targets .entry)) n base root (now (work .entry)) (now (work .exit)) r ⌝ }
 {
     zero(work, base + 2 * n, base + 2 * n + n / 32 + 1);
     let mut count = meet(n, base, root, 0, 0, work);

@@ -11,7 +11,7 @@ use Rattle.climb.proofs.Passed.{Passed, verdict-passed, verdict-refused, answer
 use Rattle.climb.proofs.Climbs.{climb-off-u, climb-off-v}
 use Rattle.climb.proofs.Reaching.{reached-off, reached-vertex}
 use Rattle.climb.proofs.Handed.{climbs-from}
-use Rattle.between.specs.Inner.{endOf}
+use Rattle.between.specs.Inner.{climbEnd}
 use Rattle.between.proofs.Answering.{lca-off-r, lca-lost-1, lca-lost-2, lca-lost-3, lca-met, ended-there}
 
 abbrev lent : tie.Start → Six
@@ -55,7 +55,7 @@ reach-requires-2 c κs = record { even = lengths (passed (c .before .before .bef
 returns-3 : tie.Need-returns-3
 returns-3 c =
     let at-start = c .before .before .before .before .before .before .before .before .before .before .before .before .before .before .before .before in
-    answered (passed (c .before .before .before .before .before .before)) Refused (lca-lost-1 _ _ _ _ _ (ap endOf (sym (climb-off-u _ _ _ _ (reached-off (at-start .args .parent .now) (at-start .args .depth .now) (at-start .args .head .now) (at-start .args .id .now) (c .before .before .reach2 .ensures) (not-true _ (c .if2 .taken)) _ _)))))
+    answered (passed (c .before .before .before .before .before .before)) Refused (lca-lost-1 _ _ _ _ _ (ap climbEnd (sym (climb-off-u _ _ _ _ (reached-off (at-start .args .parent .now) (at-start .args .depth .now) (at-start .args .head .now) (at-start .args .id .now) (c .before .before .reach2 .ensures) (not-true _ (c .if2 .taken)) _ _)))))
 
 reach-requires-3 : tie.Need-reach-requires-3
 reach-requires-3 c κs = record { even = lengths (passed (c .before .before .before .before .before .before)) .even; vertex = first-below (others (others (passed (c .before .before .before .before .before .before)))) }
@@ -63,7 +63,7 @@ reach-requires-3 c κs = record { even = lengths (passed (c .before .before .bef
 returns-4 : tie.Need-returns-4
 returns-4 c =
     let at-start = c .before .before .before .before .before .before .before .before .before .before .before .before .before .before .before .before .before .before .before in
-    answered (passed (c .before .before .before .before .before .before .before .before .before)) Refused (lca-lost-1 _ _ _ _ _ (ap endOf (sym (climb-off-v _ _ _ _ (reached-off (at-start .args .parent .now) (at-start .args .depth .now) (at-start .args .head .now) (at-start .args .id .now) (c .before .before .reach3 .ensures) (not-true _ (c .if3 .taken)) _ _)))))
+    answered (passed (c .before .before .before .before .before .before .before .before .before)) Refused (lca-lost-1 _ _ _ _ _ (ap climbEnd (sym (climb-off-v _ _ _ _ (reached-off (at-start .args .parent .now) (at-start .args .depth .now) (at-start .args .head .now) (at-start .args .id .now) (c .before .before .reach3 .ensures) (not-true _ (c .if3 .taken)) _ _)))))
 
 meeting-requires : tie.Need-meeting-requires
 meeting-requires c κs =

@@ -5,7 +5,7 @@ use Prim.Native.Nat.{_≤_, _-_}
 use native.Mathlib.Omega.{arith}
 use mir.Facts.{fits-widen}
 use lib.ListN.{length, drop}
-use Rattle.numbering.specs.RuleOne.{keep}
+use Rattle.paths.specs.Lists.{keep}
 use Rattle.centroid.specs.Search.{live}
 use Rattle.centroid.proofs.Adding.{Adding, loop-start, loop-asks, loop-more, loop-done}
 

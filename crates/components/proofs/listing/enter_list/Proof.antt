@@ -5,7 +5,7 @@ use Prim.Native.Nat.{_≤_, _-_}
 use native.Mathlib.Omega.{arith}
 use mir.Facts.{fits-widen}
 use lib.ListN.{length, drop}
-use Rattle.numbering.specs.RuleOne.{keep}
+use Rattle.paths.specs.Lists.{keep}
 use Rattle.components.specs.Entering.{leads, levelIn}
 use Rattle.components.proofs.Putting.{Putting, put-start, put-long, put-asks, put-next, put-done}
 

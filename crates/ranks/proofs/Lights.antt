@@ -4,19 +4,14 @@ use native.Mathlib.Omega.{arith}
 use mathlib.Core.Path.{_≡_, refl, sym, ap, _∙_, subst}
 use mathlib.Core.Logic.{_≢_, inl, inr, ⊎-elim}
 use mathlib.Core.List.{List, [], _∷_, _++_, append-nil}
-use borrow.Author.Tests.{eq-eqb, ne-eqb}
 use Rattle.sums.proofs.Sums.{equal-or-not}
 use Rattle.paths.specs.Walk.{In}
 use Rattle.numbering.specs.Numbering.{total}
 use Rattle.numbering.specs.RuleOne.{without}
-use Rattle.passes.specs.Passes.{runFrom, run, Weighed, Backwards, lights}
+use Rattle.numbering.proofs.ChildLists.{without-same, without-other, without-in, total-append}
+use Rattle.passes.specs.Passes.{runFrom, run, Weighed}
+use Rattle.ranks.specs.Ranks.{Backwards, lights}
 use Rattle.passes.proofs.Runs.{in-run, run-child, run-split, run-more, run-same, run-none}
-
-without-same : (h x : ℕ) (l : List ℕ) → x ≡ h → without h (x ∷ l) ≡ without h l
-without-same h x l e = rw (eq-eqb x h e, without)
-
-without-other : (h x : ℕ) (l : List ℕ) → x ≢ h → without h (x ∷ l) ≡ x ∷ without h l
-without-other h x l d = rw (ne-eqb x h d, without)
 
 without-append : (h : ℕ) (l m : List ℕ) → without h (l ++ m) ≡ without h l ++ without h m
 without-append h [] m = refl
@@ -24,17 +19,6 @@ without-append h (x ∷ l) m =
     let rest = without-append h l m in
     equal-or-not x h (λ e. without-same h x (l ++ m) e ∙ rest ∙ sym (ap (λ (k : List ℕ). k ++ without h m) (without-same h x l e)))
     (λ d. without-other h x (l ++ m) d ∙ ap (λ (k : List ℕ). x ∷ k) rest ∙ sym (ap (λ (k : List ℕ). k ++ without h m) (without-other h x l d)))
-
-in-without : (h x : ℕ) (l : List ℕ) → In x (without h l) → In x l
-in-without h x [] i = i
-in-without h x (y ∷ l) i =
-    let rest = in-without h x l in
-    equal-or-not y h (λ e. inr (rest (subst (λ (k : List ℕ). In x k) (without-same h y l e) i)))
-    (λ d. ⊎-elim (λ (e : x ≡ y). inl e) (λ (k : In x (without h l)). inr (rest k)) (subst (λ (k : List ℕ). In x k) (without-other h y l d) i))
-
-total-append : (s : ℕ → ℕ) (l m : List ℕ) → total s (l ++ m) ≡ total s l + total s m
-total-append s [] m = omega arith
-total-append s (x ∷ l) m = omega (arith, total-append s l m)
 
 -- one more at the end
 pub total-more : (s : ℕ → ℕ) (l : List ℕ) (x : ℕ) → total s (l ++ (x ∷ [])) ≡ total s l + s x
@@ -63,7 +47,7 @@ backwards-more id s end (y ∷ l) x e b = (b .0, backwards-more id s (id y) l x 
 module _ (p h : ℕ → ℕ) (j : ℕ) where
   -- a light child before j
   pub in-lights : (i x : ℕ) → 1 ≤ j → In x (lights p h j i) → x < j
-  in-lights i x some k = in-run p j 1 i some (in-without (h i) x (run p j i) k) .1
+  in-lights i x some k = in-run p j 1 i some (without-in (h i) (run p j i) x .0 k .0) .1
 
   -- position j is no child of i
   pub lights-other : (i : ℕ) → 1 ≤ j → p j ≢ i → lights p h (j + 1) i ≡ lights p h j i

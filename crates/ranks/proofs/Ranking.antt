@@ -7,8 +7,9 @@ use mathlib.Core.List.{List}
 use Rattle.sums.proofs.Sums.{equal-or-not, up-to}
 use Rattle.numbering.specs.Numbering.{total}
 use Rattle.graph.specs.Work.{Put}
-use Rattle.passes.specs.Passes.{Weighed, Backwards, lights, Ranked}
-use Rattle.passes.proofs.Lights.{backwards-same, backwards-more, in-lights, lights-other, lights-heavy, lights-more, lights-none, total-more, child-room}
+use Rattle.passes.specs.Passes.{Weighed}
+use Rattle.ranks.specs.Ranks.{Backwards, lights, Ranked}
+use Rattle.ranks.proofs.Lights.{backwards-same, backwards-more, in-lights, lights-other, lights-heavy, lights-more, lights-none, total-more, child-room}
 
 -- each position but the first stands behind its parent, and the positions are weighed
 pub record WeighedTree (n : ℕ) (p s h : ℕ → ℕ) : Type 0 where

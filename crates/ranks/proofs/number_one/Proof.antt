@@ -2,10 +2,10 @@
 use mathlib.Core.Path.{_∙_}
 use lib.ListN.{length-set}
 use mir.Facts.{fits-widen}
-use Rattle.passes.specs.Inner.{heavy, light}
+use Rattle.ranks.specs.Inner.{heavy, light}
 use borrow.Author.Needs.{needs}
-use Rattle.passes.proofs.number_one.Statement.{statement}
-use Rattle.passes.proofs.number_one.Tie as tie
+use Rattle.ranks.proofs.number_one.Statement.{statement}
+use Rattle.ranks.proofs.number_one.Tie as tie
 
 mul-size : tie.Need-mul-size
 mul-size c = search needs

@@ -1,10 +1,10 @@
 -- `place` meets its contract: it makes the four stores.
 use native.Mathlib.Omega.{arith}
 use lib.ListN.{length-set}
-use Rattle.passes.proofs.Numbers.{placed}
+use Rattle.ranks.proofs.Numbers.{placed}
 use borrow.Author.Needs.{needs}
-use Rattle.passes.proofs.place.Statement.{statement}
-use Rattle.passes.proofs.place.Tie as tie
+use Rattle.ranks.proofs.place.Statement.{statement}
+use Rattle.ranks.proofs.place.Tie as tie
 
 mul-work : tie.Need-mul-work
 mul-work c = search needs

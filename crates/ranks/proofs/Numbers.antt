@@ -8,9 +8,10 @@ use lib.ListN.{length, set, length-set}
 use Rattle.sums.specs.Sum.{at}
 use Rattle.graph.specs.Work.{Only, Put}
 use Rattle.graph.proofs.Frames.{only-refl, only-trans, only-set, at-set-same, at-set-other}
-use Rattle.passes.specs.Passes.{region, NumberAsks, NumberAnswers}
-use Rattle.passes.specs.Inner.{PlaceAsks, Placed, OneAsks, Numbers, heavy, light}
-use Rattle.passes.proofs.Ranking.{WeighedTree, Ranking, ranking-start, ranking-heavy, ranking-light, ranking-done, left-enough, left-within}
+use Rattle.passes.specs.Passes.{region}
+use Rattle.ranks.specs.Ranks.{NumberAsks, NumberAnswers}
+use Rattle.ranks.specs.Inner.{PlaceAsks, Placed, OneAsks, Numbers, heavy, light}
+use Rattle.ranks.proofs.Ranking.{WeighedTree, Ranking, ranking-start, ranking-heavy, ranking-light, ranking-done, left-enough, left-within}
 
 -- the four stores of `place`
 pub placed : {n j : ℕ} (id end top deep : ℕ) {w : List ℕ} → PlaceAsks n j w

@@ -3,9 +3,9 @@
 use Prim.Native.Nat.{_-_}
 use native.Mathlib.Omega.{arith}
 use mir.Facts.{fits-widen}
-use Rattle.passes.proofs.Numbers.{NumberLoop, number-start, number-length, number-asks, number-step, number-done}
-use Rattle.passes.proofs.number.Statement.{statement}
-use Rattle.passes.proofs.number.Tie as tie
+use Rattle.ranks.proofs.Numbers.{NumberLoop, number-start, number-length, number-asks, number-step, number-done}
+use Rattle.ranks.proofs.number.Statement.{statement}
+use Rattle.ranks.proofs.number.Tie as tie
 
 abbrev Inv-loop : tie.InvT-loop
 Inv-loop n work₀ all j₀ work j = NumberLoop n work₀ work j

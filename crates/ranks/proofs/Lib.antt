@@ -1,0 +1,3 @@
+pub mod Lights
+pub mod Ranking
+pub mod Numbers
