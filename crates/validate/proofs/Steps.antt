@@ -23,7 +23,8 @@ use Rattle.visit.specs.Visit.{VisitAsks, VisitAnswers, Visited, queueIn, upIn}
 use Rattle.visit.proofs.Positions.{places, visit-rooted, visit-held, listed-back, back-listed, visit-reaches, visit-few, visit-all, visited-same}
 use Rattle.visit.proofs.Edges.{tree-entries, symmetric-back, entries-tree}
 use Rattle.validate.specs.Judged.{Judged}
-use Rattle.validate.specs.Listed.{CountsAsk, TreeCounts, ListedAsks, ParentsListed}
+use Rattle.parents.specs.Listed.{ListedAsks, ParentsListed}
+use Rattle.validate.specs.Counts.{CountsAsk, TreeCounts}
 
 -- a graph within its limits has few vertices
 pub counts-ask : {os ts w : List ℕ} → Begun os ts w → CountsAsk (vertices os)

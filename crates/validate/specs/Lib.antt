@@ -1,2 +1,2 @@
 pub mod Judged
-pub mod Listed
+pub mod Counts

@@ -1,7 +1,4 @@
 // Tree validation: a graph is accepted exactly when it is a tree.
-mod listed;
-
-use crate::listed::parents_listed;
 use answers::codes::BAD_OFFSETS;
 use answers::codes::BAD_ROOT;
 use answers::codes::BAD_VERTEX;
@@ -13,13 +10,14 @@ use graph::call::begin;
 use graph::call::finish;
 use graph::lists::sound_offsets;
 use graph::lists::sound_targets;
+use parents::parents_listed;
 use symmetry::symmetric;
 use visit::visit;
 ghost use Rattle.graph.specs.Judgement.{Decides};
 ghost use Rattle.graph.specs.Validation.{Validates};
 ghost use Rattle.graph.specs.Steps.{Begun};
 ghost use Rattle.validate.specs.Judged.{Judged};
-ghost use Rattle.validate.specs.Listed.{CountsAsk, TreeCounts};
+ghost use Rattle.validate.specs.Counts.{CountsAsk, TreeCounts};
 
 // Whether all n vertices were met, and there are as many entries as a tree has: two for each of its n - 1 edges.
 fn tree_counts(n: usize, met: usize, entries: usize) -> bool

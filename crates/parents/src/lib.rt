@@ -2,7 +2,7 @@
 use graph::lists::neighbours;
 ghost use Rattle.paths.specs.Walk.{In};
 ghost use Rattle.graph.specs.Judgement.{Decides};
-ghost use Rattle.validate.specs.Listed.{ListedAsks, ParentsListed};
+ghost use Rattle.parents.specs.Listed.{ListedAsks, ParentsListed};
 
 // Whether x stands in the list.
 fn stands(list: &[u32], x: u32) -> bool

@@ -1,12 +1,12 @@
-use Rattle.validate.proofs.listed.parents_listed.Statement.{statement}
-use Rattle.validate.proofs.listed.parents_listed.Tie as tie
+use Rattle.parents.proofs.parents_listed.Statement.{statement}
+use Rattle.parents.proofs.parents_listed.Tie as tie
 use borrow.Author.Needs.{needs}
 use Prim.Native.Nat.{ℕ, _-_, _+_, _<_}
 use native.Mathlib.Omega.{arith}
 use mathlib.Core.Path.{sym, subst}
 use Rattle.paths.specs.Walk.{In}
 use Rattle.graph.proofs.Judging.{decides-no, decides-yes, passed, failed}
-use Rattle.validate.proofs.Listing.{Listed, listed-more}
+use Rattle.parents.proofs.Listing.{Listed, listed-more}
 
 abbrev Inv-loop : tie.InvT-loop
 Inv-loop offsets targets n work j₀ j = (0 < j) × ((k : ℕ) → 0 < k → k < j → Listed offsets targets n work k)

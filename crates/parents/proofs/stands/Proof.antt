@@ -1,5 +1,5 @@
-use Rattle.validate.proofs.listed.stands.Statement.{statement}
-use Rattle.validate.proofs.listed.stands.Tie as tie
+use Rattle.parents.proofs.stands.Statement.{statement}
+use Rattle.parents.proofs.stands.Tie as tie
 use borrow.Author.Needs.{needs}
 use Prim.Native.Nat.{ℕ, _≤_, _<_, _-_}
 use native.Mathlib.Omega.{arith}
@@ -8,7 +8,7 @@ use lib.ListN.{length}
 use borrow.Author.Count.{below-more}
 use Rattle.sums.specs.Sum.{at}
 use Rattle.graph.proofs.Judging.{decides-no, decides-yes}
-use Rattle.validate.proofs.Listing.{entry-in, no-entry}
+use Rattle.parents.proofs.Listing.{entry-in, no-entry}
 
 abbrev Inv-loop : tie.InvT-loop
 Inv-loop list x k₀ k = (k ≤ length list) × ((i : ℕ) → i < k → at list i ≢ x)
