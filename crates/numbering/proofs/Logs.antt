@@ -4,6 +4,7 @@ use native.Mathlib.Omega.{arith}
 use native.Mathlib.Decide.{decLe}
 use native.Mathlib.Nat.{two-pow-succ, le-div-iff-mul-le, div-lt-iff-lt-mul}
 use mathlib.Core.Path.{_≡_, refl, sym, ap, _∙_}
+use lib.Count.{leadingZeros, leading-top}
 use lib.Pow.{pow-pos, pow-mono}
 use borrow.Author.Tests.{lt-ltb, le-ltb}
 use Rattle.numbering.specs.Log.{halvings, log2}
@@ -80,14 +81,6 @@ log2-greatest k n h = elim (decLe k (log2 n)) [
       absurd (omega arith)
 ]
 
--- a number that is 2 or more after k halvings can be halved more than k times
-pub log2-more : (n k : ℕ) → 2 ≤ n / 2 ^ k → k < log2 n
-log2-more n k h =
-    let a : 2 * 2 ^ k ≤ n = le-div-iff-mul-le (pow-pos k) .0 h in
-    let b = two-pow-succ k in
-    let c = log2-greatest (suc k) n (omega arith) in
-    omega arith
-
 -- where log2 n exceeds k, so does n the next power
 beyond : (n k : ℕ) → k < log2 n → 2 ^ suc k ≤ n
 beyond n k h = elim (decLe 2 n) [
@@ -97,6 +90,21 @@ beyond n k h = elim (decLe 2 n) [
       omega arith
   | no q ↦ let z = log2-small n (omega arith) in absurd (omega arith)
 ]
+
+-- the bounds determine the logarithm
+pub log2-only : (k n : ℕ) → 2 ^ k ≤ n → n < 2 ^ suc k → k ≡ log2 n
+log2-only k n low high = elim (decLe (log2 n) k) [
+  | yes p ↦ omega (arith, log2-greatest k n low)
+  | no q ↦ let b = beyond n k (omega arith) in absurd (omega arith)
+]
+
+-- a number that is 2 or more after k halvings can be halved more than k times
+pub log2-more : (n k : ℕ) → 2 ≤ n / 2 ^ k → k < log2 n
+log2-more n k h =
+    let a : 2 * 2 ^ k ≤ n = le-div-iff-mul-le (pow-pos k) .0 h in
+    let b = two-pow-succ k in
+    let c = log2-greatest (suc k) n (omega arith) in
+    omega arith
 
 -- and one that is less cannot
 pub log2-worn : (n k : ℕ) → n / 2 ^ k < 2 → log2 n ≤ k
@@ -115,3 +123,9 @@ log2-word n h = elim (decLe 64 (log2 n)) [
   | no g ↦ omega arith
   | yes g ↦ let b = beyond n 63 (omega arith) in absurd (omega arith)
 ]
+
+-- A number that is not 0, written with k digits, has its leading zeros, its highest set digit, and below that as many digits as its logarithm says.
+pub log2-leading : (k n : ℕ) → 1 ≤ n → n < 2 ^ k → leadingZeros k n + suc (log2 n) ≡ k
+log2-leading k n p h =
+    let top = leading-top k n p h in
+    omega (arith, top .1, log2-only (top .0) n (top .2) (top .3))
