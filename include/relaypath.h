@@ -257,8 +257,9 @@ uint32_t relaypath_vertex_edge_path_ranges(const uint32_t *parent, size_t parent
                                            uint32_t *ranges, size_t ranges_len,
                                            size_t *count);
 
-/* The number of ranges that is enough for every path among n vertices;
- * RELAYPATH_BAD_SIZE where n is not from 1 to RELAYPATH_MAX_VERTICES. */
+/* The number of ranges that is enough for every path among n vertices,
+ * 2 * floor(log2(n)) + 1; RELAYPATH_BAD_SIZE where n is not from 1 to
+ * RELAYPATH_MAX_VERTICES. Time: constant. */
 uint32_t relaypath_range_room(size_t n, size_t *answer);
 
 /*

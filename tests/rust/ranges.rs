@@ -79,9 +79,10 @@ impl<'a> Both<'a> {
     }
 }
 
-// Range room for every n, and on both sides of its limits.
+// Range room for every n, on both sides of its limits, and for some of more than 32 bits.
 fn rooms(tally: &mut Tally) {
-    for n in 0..=32_769_usize {
+    let wide = [1 << 32, (1 << 32) + 1, 1 << 63, usize::MAX];
+    for n in (0..=32_769_usize).chain(wide) {
         let within = (1..=32_768).contains(&n);
         let (code, room) = range_room(n);
         let fine = if within {

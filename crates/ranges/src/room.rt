@@ -2,21 +2,20 @@
 use answers::answer::Answer;
 use answers::answer::Refusal;
 use answers::limits::MAX_VERTICES;
+ghost use Prim.Native.Nat.{_≤_};
 ghost use mathlib.Core.Path.{_≡_};
 ghost use Rattle.numbering.specs.Log.{log2};
 ghost use Rattle.ranges.specs.Calls.{rangeRoom};
 
-// How often n can be halved before it is 1; 0 of 0.
+// The bits of a usize.
+const BITS: usize = 64;
+
+// floor(log2 n) for an n from 1 on: the place of its highest set bit, counted from 0. Above it stand the leading zeros.
 fn floor_log2(n: usize) -> usize
+    requires { ⌜ 1 ≤ n ⌝ }
     ensures { λ r. ⌜ r ≡ log2 n ⌝ }
 {
-    let mut left = n;
-    let mut count: usize = 0;
-    while 1 < left {
-        left = left / 2;
-        count += 1;
-    }
-    count
+    BITS - 1 - usize::leading_zeros(n) as usize
 }
 
 // The number of ranges that is enough for every path among n vertices.

@@ -1,33 +1,21 @@
--- `room::floor_log2` meets its contract: the halvings done and those of what is left are those of n.
+-- `room::floor_log2` meets its contract: the leading zeros of n, its highest set bit and log2 n bits below it make 64.
+use borrow.Author.Needs.{needs}
+use native.Mathlib.Omega.{arith}
+use Rattle.numbering.proofs.Logs.{log2-leading}
 use Rattle.ranges.proofs.room.floor_log2.Statement.{statement}
 use Rattle.ranges.proofs.room.floor_log2.Tie as tie
-use Prim.Native.Nat.{_≤_, _+_}
-use mathlib.Core.Path.{_≡_}
-use native.Mathlib.Omega.{arith}
-use Rattle.numbering.specs.Log.{log2}
-use Rattle.numbering.proofs.Logs.{log2-small, log2-half}
 
-abbrev Inv-loop : tie.InvT-loop
-Inv-loop n left₀ count₀ left count = (count + left ≤ n) × (count + log2 left ≡ log2 n)
+sub-result : tie.Need-sub-result
+sub-result c = search needs
 
-abbrev μ-loop : tie.MeasureT-loop
-μ-loop n left₀ count₀ left count = left
+cast-result : tie.Need-cast-result
+cast-result c = omega (arith, log2-leading 64 (c .args .n) (c .pre) (c .fits .n .fits))
 
-loop-holds : tie.Need-loop-holds Inv-loop μ-loop
-loop-holds c = omega arith
+sub-result-2 : tie.Need-sub-result-2
+sub-result-2 c = omega (arith, log2-leading 64 (c .args .n) (c .pre) (c .fits .n .fits))
 
-add-count : tie.Need-add-count Inv-loop μ-loop
-add-count c = omega (arith, c .before .before .fits .n)
-
-loop-less : tie.Need-loop-less Inv-loop μ-loop
-loop-less c = omega arith
-
-loop-again : tie.Need-loop-again Inv-loop μ-loop
-loop-again c = omega (arith, log2-half (c .before .loop .left) (omega arith))
-
-returns : tie.Need-returns Inv-loop μ-loop
-returns c = omega (arith, log2-small (c .before .loop .left) (omega arith))
+returns : tie.Need-returns
+returns c = omega (arith, log2-leading 64 (c .args .n) (c .pre) (c .fits .n .fits))
 
 pub floor-log2-spec : {M : Type 1} → statement M
-floor-log2-spec =
-    tie.close (tie.spec Inv-loop μ-loop loop-holds add-count loop-less loop-again returns)
+floor-log2-spec = tie.close (tie.spec sub-result cast-result sub-result-2 returns)
