@@ -3,15 +3,15 @@
 use Prim.Native.Nat.{ℕ, _*_, _≤_}
 use mathlib.Core.Path.{_≡_}
 use mathlib.Core.Logic.{_≢_}
-use mathlib.Core.List.{List, _++_}
-use lib.ListN.{length, drop}
+use mathlib.Core.List.{List}
+use lib.ListN.{length}
 use Rattle.answers.specs.Codes.{done, tooFar}
 use Rattle.answers.specs.declared.answer.Answer.{Answer}
 use Rattle.answers.specs.declared.answer.Interval.{Interval}
 use Rattle.graph.specs.Lent.{vertices, listOf}
 use Rattle.tables.specs.Tables.{Six}
 use Rattle.hld.specs.Build.{Builds}
-use Rattle.ranges.specs.Flat.{stride, flat}
+use Rattle.ranges.specs.Flat.{stride, flatFront}
 use Rattle.ranges.specs.Calls.{Answered}
 use Rattle.centroid.specs.Calls.{Decomposes}
 use Rattle.relaypath.specs.Handed.{Handed, HandedEnds}
@@ -28,7 +28,7 @@ inC =
       interval = λ i x y. (start end start′ end′ code : ℕ) → HandedEnds i start end start′ end′ code → (code ≡ done) × (start′ ≡ x) × (end′ ≡ y);
       ranges = λ a l.
           (lent left : List ℕ) (before after code : ℕ) → HandedList a lent left before after code → stride * length l ≤ length lent
-          → (code ≡ done) × (after ≡ length l) × (left ≡ flat l ++ drop (stride * length l) lent);
+          → (code ≡ done) × (after ≡ length l) × (left ≡ flatFront l lent);
     }
 
 -- "A refused call returns its code and no other number.": what was lent for the answer is as it was

@@ -7,6 +7,7 @@ use mathlib.Core.Path.{_≡_}
 use mathlib.Core.List.{List, _∷_, _++_, map, reverse}
 use lib.ListN.{length, drop}
 use Rattle.sums.specs.Sum.{at}
+use Rattle.paths.specs.Lists.{front}
 use Rattle.paths.specs.Walk.{Stands, Simple}
 use Rattle.answers.specs.Codes.{done}
 use Rattle.graph.specs.Lent.{vertices, listOf}
@@ -16,7 +17,7 @@ use Rattle.hld.specs.Build.{Builds}
 use Rattle.climb.specs.Asked.{sizeOf}
 use Rattle.queries.specs.Queries.{lca}
 use Rattle.answers.specs.declared.answer.Answer.the-variants.{Is}
-use Rattle.ranges.specs.Flat.{stride, flat}
+use Rattle.ranges.specs.Flat.{stride, flatFront}
 use Rattle.ranges.specs.Calls.{listed, rangesOf, ListedAs}
 use Rattle.ranges.specs.Readings.{reading}
 use Rattle.ranges.specs.declared.kinds.PathRange.{PathRange}
@@ -65,12 +66,12 @@ pub record Routes (n : ℕ) (A : ℕ → List ℕ) (t : Six) : Type 0 where
   pub listed-whole :
       (kind : Kind) {u v : ℕ} → u < n → v < n → {lent left : List ℕ} {r : Listed} → ListedAs (rangesOf kind t u v) lent left r
       → stride * (2 * log2 n + 1) ≤ length lent
-      → (l : List PathRange) × (rangesOf kind t u v ≡ listed l) × (r ≡ Count (length l)) × (left ≡ flat l ++ drop (stride * length l) lent)
+      → (l : List PathRange) × (rangesOf kind t u v ≡ listed l) × (r ≡ Count (length l)) × (left ≡ flatFront l lent)
   -- and so with records, one to a range
   pub recorded-whole :
       (kind : Kind) {u v : ℕ} → u < n → v < n → {lent left : List PathRange} {r : Listed} → RecordedAs (rangesOf kind t u v) lent left r
       → 2 * log2 n + 1 ≤ length lent
-      → (l : List PathRange) × (rangesOf kind t u v ≡ listed l) × (r ≡ Count (length l)) × (left ≡ l ++ drop (length l) lent)
+      → (l : List PathRange) × (rangesOf kind t u v ≡ listed l) × (r ≡ Count (length l)) × (left ≡ front l lent)
   -- "lca(r,u,v) is the one vertex on all three paths between r, u and v, in every order of the three."
   pub lca :
       {r u v : ℕ} → r < n → u < n → v < n

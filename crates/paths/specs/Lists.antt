@@ -10,5 +10,5 @@ keep t [] = []
 keep t (x ∷ l) = elim (t x) [ true ↦ x ∷ keep t l | false ↦ keep t l ]
 
 -- a list at the front of a lent one, whose entries past it are unchanged
-abbrev pub front : List ℕ → List ℕ → List ℕ
+abbrev pub front : {A : Type 0} → List A → List A → List A
 front l lent = l ++ drop (length l) lent

@@ -1,8 +1,8 @@
 -- What only the contracts of the calls' own functions cite: what they ask and what they leave in a lent list.
 use Prim.Native.Nat.{ℕ, _*_, _≤_, _<_}
 use mathlib.Core.Path.{_≡_}
-use mathlib.Core.List.{List, _++_}
-use lib.ListN.{length, drop}
+use mathlib.Core.List.{List}
+use lib.ListN.{length}
 use Rattle.answers.specs.Limits.{maxVertices}
 use Rattle.tables.specs.Tables.{Six, six}
 use Rattle.climb.specs.Climbing.{climbTo}
@@ -13,7 +13,7 @@ use Rattle.ranges.specs.declared.kinds.Kind.{Kind}
 use Rattle.ranges.specs.declared.chains.Last.{Last}
 use Rattle.ranges.specs.declared.chains.Last.the-variants.{One}
 use Rattle.ranges.specs.Ranges.{found, pathRanges}
-use Rattle.ranges.specs.Flat.{stride, flat}
+use Rattle.ranges.specs.Flat.{stride, flatFront}
 use Rattle.ranges.specs.Inner.{Slot}
 
 pub record LastSlot (w : List ℕ) (slot : ℕ) (last : Last) : Type 0 where
@@ -43,4 +43,4 @@ pub record Writes (kind : Kind) (P D H I : List ℕ) (u v count : ℕ) (w : List
 -- the ranges of the path from the front on, and the rest of the list as it was
 abbrev pub Wrote : Kind → (P D H I : List ℕ) → ℕ → ℕ → (w w′ : List ℕ) → Type 0
 Wrote kind P D H I u v w w′ =
-    (o s : List ℕ) (l : List PathRange) → pathRanges kind (length P) (six P D H I o s) u v ≡ found l → w′ ≡ flat l ++ drop (stride * length l) w
+    (o s : List ℕ) (l : List PathRange) → pathRanges kind (length P) (six P D H I o s) u v ≡ found l → w′ ≡ flatFront l w

@@ -1,9 +1,9 @@
 -- What the calls for ranges answer, and what they leave in the lent list.
 use Prim.Native.Nat.{ℕ, _+_, _*_}
 use mathlib.Core.Path.{_≡_}
-use mathlib.Core.List.{List, [], _∷_, _++_}
+use mathlib.Core.List.{List, [], _∷_}
 use lib.Dec.{leb}
-use lib.ListN.{length, drop}
+use lib.ListN.{length}
 use Rattle.answers.specs.Limits.{maxVertices}
 use Rattle.numbering.specs.Log.{log2}
 use Rattle.tables.specs.Tables.{Six}
@@ -18,7 +18,7 @@ use Rattle.ranges.specs.declared.kinds.Kind.{Kind}
 use Rattle.answers.specs.declared.answer.Listed.{Listed}
 use Rattle.answers.specs.declared.answer.Listed.the-variants.{Count, Refused}
 use Rattle.ranges.specs.Ranges.{Found, lost, found, pathRanges}
-use Rattle.ranges.specs.Flat.{stride, flat}
+use Rattle.ranges.specs.Flat.{stride, flatFront}
 
 -- the ranges of a path, or the refusal that comes before the test of room
 pub data Answered : Type 0 where
@@ -40,7 +40,7 @@ roomAnswer (listed l) room = pick (leb (stride * length l) room) (Count (length 
 
 abbrev pub roomList : Answered → List ℕ → List ℕ
 roomList (refused x) lent = lent
-roomList (listed l) lent = pick (leb (stride * length l) (length lent)) (flat l ++ drop (stride * length l) lent) lent
+roomList (listed l) lent = pick (leb (stride * length l) (length lent)) (flatFront l lent) lent
 
 -- what a call answers and leaves in the list that it was lent
 pub record ListedAs (a : Answered) (lent left : List ℕ) (r : Listed) : Type 0 where

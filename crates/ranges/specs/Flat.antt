@@ -1,6 +1,7 @@
 -- Ranges in a plain list: the numbers that a range is there, and the range that numbers are.
 use Prim.Native.Nat.{ℕ, zero, suc, _+_, _*_}
 use mathlib.Core.List.{List, [], _∷_, _++_}
+use lib.ListN.{length, drop}
 use Rattle.sums.specs.Sum.{at}
 use Rattle.ranges.specs.declared.kinds.Direction.{Direction}
 use Rattle.ranges.specs.declared.kinds.Direction.the-variants.{Forward, Reversed}
@@ -27,6 +28,10 @@ numbersOf r = r .start ∷ r .end ∷ directionCode (r .direction) ∷ []
 abbrev pub flat : List PathRange → List ℕ
 flat [] = []
 flat (r ∷ l) = numbersOf r ++ flat l
+
+-- the ranges at the front of a lent list, whose entries past them are unchanged
+abbrev pub flatFront : List PathRange → List ℕ → List ℕ
+flatFront l lent = flat l ++ drop (stride * length l) lent
 
 -- the range in slot i of a plain list
 unfoldable pub rangeAt : List ℕ → ℕ → PathRange

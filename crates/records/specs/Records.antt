@@ -1,9 +1,10 @@
 -- What the calls for records answer, and what they leave in the lent slice: "a lent slice of records, one record to a range".
 use Prim.Native.Nat.{ℕ}
 use mathlib.Core.Path.{_≡_}
-use mathlib.Core.List.{List, _++_}
+use mathlib.Core.List.{List}
 use lib.Dec.{leb}
-use lib.ListN.{length, drop}
+use lib.ListN.{length}
+use Rattle.paths.specs.Lists.{front}
 use Rattle.answers.specs.Choice.{pick}
 use Rattle.answers.specs.declared.answer.Refusal.the-variants.{NoRoom}
 use Rattle.ranges.specs.declared.kinds.PathRange.{PathRange}
@@ -19,7 +20,7 @@ recordAnswer (listed l) room = pick (leb (length l) room) (Count (length l)) (Re
 -- where the slice is too short nothing is written; "Entries of a list past its count are unchanged"
 abbrev pub recordList : Answered → List PathRange → List PathRange
 recordList (refused x) lent = lent
-recordList (listed l) lent = pick (leb (length l) (length lent)) (l ++ drop (length l) lent) lent
+recordList (listed l) lent = pick (leb (length l) (length lent)) (front l lent) lent
 
 -- what a call answers and leaves in the slice that it was lent
 pub record RecordedAs (a : Answered) (lent left : List PathRange) (r : Listed) : Type 0 where
