@@ -7,7 +7,7 @@ use mathlib.Core.List.{List}
 use lib.Dec.{leb}
 use borrow.Author.Tests.{leb-true}
 use Rattle.answers.specs.Limits.{max_vertices}
-use Rattle.answers.specs.Choice.{pick, both}
+use Rattle.answers.specs.Choice.{pick}
 use Rattle.answers.specs.Asked.{lengths?, sized?, vertices?, asked_of}
 use Rattle.answers.specs.declared.answer.Refusal.{Refusal}
 use Rattle.answers.specs.declared.answer.Refusal.TheVariants.{BadSize, BadVertex}

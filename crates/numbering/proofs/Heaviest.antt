@@ -2,7 +2,7 @@
 use Prim.Native.Nat.{ℕ, ◌≤◌, ◌<◌}
 use native.Mathlib.Omega.{arith}
 use native.Mathlib.Decide.{dec_lt}
-use mathlib.Core.Path.{◌≡◌, refl, sym, ap, ◌∙◌}
+use mathlib.Core.Path.{◌≡◌, refl, sym, ap, subst, ◌∙◌}
 use mathlib.Core.Logic.{inl, inr, ⊎_elim}
 use mathlib.Core.List.{List, [], ◌∷◌}
 use borrow.Author.Tests.{lt-ltb, le-ltb}
@@ -23,8 +23,9 @@ heaviest_in size x [] = inl refl
 heaviest_in size x (y ∷ l) = go (dec_lt (size x) (size y)) (heaviest_in size x l) (heaviest_in size y l)
   where
     go : Dec (size x < size y) → In (heaviest size x l) (x ∷ l) → In (heaviest size y l) (y ∷ l) → In (heaviest size x (y ∷ l)) (x ∷ (y ∷ l))
-    go (yes h) i j = rw (heaviest_next size x y l h) (inr j)
-    go (no h) i j = rw (heaviest_stays size x y l (omega arith)) (⊎_elim inl (λ k. inr (inr k)) i)
+    go (yes h) i j = subst (λ z. In z (x ∷ (y ∷ l))) (sym (heaviest_next size x y l h)) (inr j)
+    go (no h) i j =
+        subst (λ z. In z (x ∷ (y ∷ l))) (sym (heaviest_stays size x y l (omega arith))) (⊎_elim inl (λ k. inr (inr k)) i)
 
 -- no entry is heavier
 pub heaviest_most : (size : ℕ → ℕ) (x : ℕ) (l : List ℕ) (v : ℕ) → In v (x ∷ l) → size v ≤ size (heaviest size x l)

@@ -1,1 +1,2 @@
 // Heavy-chain numberings of a rooted tree: definitions in specs/, laws in proofs/. This crate has no code.
+#![tactic(auto)]

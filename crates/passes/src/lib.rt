@@ -1,6 +1,7 @@
 // The passes of the build over the positions of a breadth-first visit, and the first of them: sizes and heavy children. The children of a position stand
 // together behind it, in list order, so each pass reads memory in order and no list is read again. Work holds regions of n entries; which is which, the
 // constants say.
+#![tactic(auto)]
 ghost use Rattle.passes.specs.Passes.{WeighAsks, WeighAnswers, region};
 ghost use Rattle.passes.specs.Inner.{StartAsks, StartAnswers, HeavierAsks, Heavier, HandAsks, HandAnswers};
 

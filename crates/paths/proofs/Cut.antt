@@ -1,6 +1,6 @@
 -- A path is cut at the vertices on it, and covered by any detour.
 use Prim.Native.Nat.{ℕ, ◌+◌, ◌<◌}
-use mathlib.Core.Path.{◌≡◌, ◌∙◌, ap}
+use mathlib.Core.Path.{◌≡◌, ◌∙◌, ap, sym, subst}
 use mathlib.Core.Logic.{◌⊎◌, inl, inr, ⊎_elim}
 use mathlib.Core.List.{[], ◌∷◌, ◌++◌, append-nil, append_assoc}
 use native.Mathlib.Omega.{arith}
@@ -61,7 +61,7 @@ module _ {n root : ℕ} {par dep : ℕ → ℕ} (R : Rooted n root par dep) wher
 
   -- what is on the part of a path from a vertex on it is on the path
   pub on_last-part : (x y : ℕ) {u v : ℕ} → u < n → v < n → On par dep x u v → On par dep y x v → On par dep y u v
-  on_last-part x y {u} {v} hu hv h (inl e) = rw e h
+  on_last-part x y {u} {v} hu hv h (inl e) = subst (λ z. On par dep z u v) (sym e) h
   on_last-part x y {u} {v} hu hv h (inr i) = inr (rw (cut x hu hv h) (in_right y (ptail par dep u x) (ptail par dep x v) i))
 
   -- the path to the parent is one step
@@ -100,7 +100,7 @@ module _ {n root : ℕ} {par dep : ℕ → ℕ} (R : Rooted n root par dep) wher
       to_child u w hu hw q j = elim (anc? par dep w v) [
         | no f ↦ inr (inr (rw (leave R hw hv f) j))
         | yes a ↦
-            ⊎_elim (λ e. inl (longer u w hw q (rw e (on_last R hu (R.par_below w hw (omega arith))))))
+            ⊎_elim (λ e. inl (longer u w hw q (subst (λ z. On par dep z u (par w)) (sym e) (on_last R hu (R.par_below w hw (omega arith))))))
             (λ k. inr (rw (enter R hw hv (omega arith) a) at k)) j
       ]
 

@@ -83,6 +83,7 @@ at_in (x ∷ l) (suc i) h = inr (at_in l i (omega arith))
 
 -- what stands in a list is an entry
 pub in_at : (x : ℕ) (l : List ℕ) → In x l → (i : ℕ) × (i < length l) × (at l i ≡ x)
+in_at x [] h = absurd h
 in_at x (y ∷ l) (inl e) = (0, omega arith, sym e)
 in_at x (y ∷ l) (inr h) = (let r = in_at x l h in (suc r.0, (let k = r.1 in omega arith), r.2))
 

@@ -17,6 +17,7 @@ Rises [] = Unit {0}
 Rises (x ∷ l) = Above x l × Rises l
 
 pub above_in : (x y : ℕ) (l : List ℕ) → Above x l → In y l → x < y
+above_in x y [] a h = absurd h
 above_in x y (z ∷ l) a (inl e) = (let h = a.0 in omega arith)
 above_in x y (z ∷ l) a (inr i) = above_in x y l a.1 i
 

@@ -1,10 +1,11 @@
 -- The deepest common ancestor of two vertices: where their path turns from going up to going down.
 use Prim.Native.Nat.{ℕ, ◌+◌, ◌*◌, ◌<◌}
-use mathlib.Core.Path.{◌≡◌, sym, ◌∙◌, ap}
+use mathlib.Core.Path.{◌≡◌, sym, ◌∙◌, ap, subst}
 use mathlib.Core.Logic.{inl, inr, ⊎_elim, ◌≢◌}
 use mathlib.Core.List.{[], ◌∷◌, ◌++◌}
 use native.Mathlib.Omega.{arith}
 use lib.ListN.{length, length-append}
+use Rattle.paths.specs.Walk.{In}
 use Rattle.paths.specs.Rooted.{Rooted, Anc}
 use Rattle.paths.specs.Route.{ptail, On, top}
 use Rattle.paths.proofs.Listed.{in_left, in_snoc}
@@ -85,12 +86,15 @@ module _ {n root : ℕ} {par dep : ℕ → ℕ} (R : Rooted n root par dep) wher
       same u hu = inl (top_same par dep u)
 
       up : StepUp n par dep P
-      up u v hu hv d p q ih = inr (rw (top_up R u v hu hv d q, ptail_up R u v hu hv d q) ih)
+      up u v hu hv d p q ih =
+          inr (subst (λ l. In (top par dep u v) l) (sym (ptail_up R u v hu hv d q))
+          (subst (λ z. On par dep z (par u) v) (sym (top_up R u v hu hv d q)) ih))
 
       down : StepDown n par dep P
       down u v hu hv q ih =
-          rw (top_down R u v hv q, ptail_down R u v hv q)
-          (in_left (top par dep u (par v)) (u ∷ ptail par dep u (par v)) (v ∷ []) ih)
+          subst (λ l. In (top par dep u v) (u ∷ l)) (sym (ptail_down R u v hv q))
+          (subst (λ z. In z (u ∷ (ptail par dep u (par v) ++ (v ∷ [])))) (sym (top_down R u v hv q))
+          (in_left (top par dep u (par v)) (u ∷ ptail par dep u (par v)) (v ∷ []) ih))
 
   -- the path goes up to it and then down
   pub top_cut : {u v : ℕ} → u < n → v < n → ptail par dep u v ≡ ptail par dep u (top par dep u v) ++ ptail par dep (top par dep u v) v

@@ -1,6 +1,7 @@
 // 01, code 6: whether each v stands in u's list as often as u in v's, in time linear in n + E on every input. The lists are turned
 // round twice: turned once they hold, for each x, the vertices u in whose lists x stands, in ascending order; turned again they must
 // give the same lists.
+#![tactic(auto)]
 ghost use Rattle.symmetry.specs.Symmetry.{SymmetryAsks, SymmetryAnswers};
 ghost use Rattle.symmetry.specs.Inner.{StartAsks, StartAnswers, TurnAsks, TurnAnswers, BackAsks, BackAnswers};
 

@@ -1,0 +1,16 @@
+-- `lists::sound_offsets` meets its contract: the loop decides of the offsets up to here that none falls.
+use borrow.Author.Rules.{rules}
+use borrow.Author.Tests.{not-true, not-false}
+use Prim.Native.Nat.{ℕ, ◌≤◌, ◌<◌, ◌-◌, ◌+◌}
+use native.Mathlib.Omega.{arith}
+use Rattle.sums.specs.Sum.{at}
+use Rattle.graph.specs.Judgement.{Decides}
+use Rattle.graph.proofs.Judging.{decides_yes, decides_no, decides_eqb, decides_more}
+use mir.Facts.{Fits-widen}
+use Rattle.graph.proofs.lists.sound_offsets.Given as goal
+
+abbrev pub invariant-loop-u : goal.invariant-loop-u
+invariant-loop-u l = (l.u ≤ l.n) × Decides ((k : ℕ) → k < l.u → at l.offsets k ≤ at l.offsets (k + 1)) l.rises
+
+abbrev pub decreases-loop-u : goal.decreases-loop-u
+decreases-loop-u l = l.n - l.u

@@ -1,0 +1,12 @@
+-- `weigh` meets its contract. The loop's invariant: the positions from `left` on are handed on to their parents, and only the regions 2 and 3 have
+use native.Mathlib.Omega.{arith}
+use mir.Facts.{Fits-widen}
+use Rattle.passes.proofs.Weights.{WeighLoop, weigh_start, weigh-length, weigh_hands, weigh_step, weigh-done}
+use Rattle.passes.proofs.weigh.Given as goal
+
+-- changed. The measure is the number of positions left.
+abbrev pub invariant-loop-left : goal.invariant-loop-left
+invariant-loop-left l = WeighLoop l.n l.initial.work l.work l.left
+
+abbrev pub decreases-loop-left : goal.decreases-loop-left
+decreases-loop-left l = l.left

@@ -1,0 +1,145 @@
+-- `turn` meets its contract. The loop's invariant: the entries before e are turned, and only the cursors and the turned lists have changed.
+use Prim.Native.Nat.{◌+◌, ◌-◌}
+use native.Mathlib.Omega.{arith}
+use lib.ListN.{length, length-set}
+use mir.Facts.{Fits-widen}
+use Rattle.symmetry.specs.Inner.{TurnLoop}
+use Rattle.symmetry.proofs.Loops.{next_fits, TurnRoom, turn_start, turn_room, turn_till, turn_step, turn_next, turn_refused, turn-done}
+use Rattle.symmetry.proofs.turn.Lts as lts
+use Rattle.symmetry.proofs.turn.Goals as goal
+
+-- what is known of the entry in hand
+room : (c : lts.Then1 reads.Pre reads.Post invariant-loop decreases-loop)
+    → TurnRoom c.before.before.before.before.args.offsets.now
+    c.before.before.before.before.args.targets.now
+    c.before.before.before.before.args.n
+    c.before.before.before.before.args.work.now
+    c.before.before.before.loop.work
+    c.before.before.before.loop.e
+room c =
+    turn_room c.before.before.before.before.requires
+    c.before.before.before.loop.invariant
+    c.before.before.loop-test.true
+    c.if1.true
+
+pub loop-u-init : goal.loop-u-init
+loop-u-init c = turn_start c.requires
+
+pub overflow_add-u : goal.overflow_add-u
+overflow_add-u c = omega arith
+
+pub offset_bounds-offsets-u : goal.offset_bounds-offsets-u
+offset_bounds-offsets-u c = omega arith
+
+pub bounds-offsets-u : goal.bounds-offsets-u
+bounds-offsets-u c = omega arith
+
+pub overflow_cast-offsets : goal.overflow_cast-offsets
+overflow_cast-offsets c = Fits-widen tt (c.shared_slice_known-1.given _)
+
+pub offset_bounds-targets-e : goal.offset_bounds-targets-e
+offset_bounds-targets-e c = omega (arith, room c)
+
+pub bounds-targets-e : goal.bounds-targets-e
+bounds-targets-e c = omega (arith, room c.before)
+
+pub overflow_cast-x : goal.overflow_cast-x
+overflow_cast-x c = Fits-widen tt (c.shared_slice_known-then-e-offsets-1.given _)
+
+pub overflow_add-next : goal.overflow_add-next
+overflow_add-next c = omega (arith, room c.before)
+
+pub offset_bounds-work-base : goal.offset_bounds-work-base
+offset_bounds-work-base c = omega (arith, room c.before)
+
+pub bounds-work-base : goal.bounds-work-base
+bounds-work-base c = omega (arith, room c.before.before)
+
+pub overflow_cast-next : goal.overflow_cast-next
+overflow_cast-next c = Fits-widen tt (c.slice_known-1.given _)
+
+pub overflow_add-x : goal.overflow_add-x
+overflow_add-x c = omega (arith, room c.before.before)
+
+pub offset_bounds-offsets-x : goal.offset_bounds-offsets-x
+offset_bounds-offsets-x c = omega (arith, room c.before.before)
+
+pub bounds-offsets-x : goal.bounds-offsets-x
+bounds-offsets-x c = omega (arith, room c.before.before.before)
+
+pub overflow_cast-offsets-then-e-offsets : goal.overflow_cast-offsets-then-e-offsets
+overflow_cast-offsets-then-e-offsets c = Fits-widen tt (c.shared_slice_known-then-e-offsets-2-1.given _)
+
+pub shape_of-work-then-offsets-x : goal.shape_of-work-then-offsets-x
+shape_of-work-then-offsets-x c = c.loop-u.invariant.only.same_length
+
+pub returns-then-offsets-x : goal.returns-then-offsets-x
+returns-then-offsets-x c =
+    turn_refused c.requires
+    c.loop-u.invariant
+    c.loop-u-test.true
+    c.if-e-offsets.true
+    c.if-offsets-x.true
+
+pub overflow_cast-work : goal.overflow_cast-work
+overflow_cast-work c = omega arith
+
+pub overflow_add-work : goal.overflow_add-work
+overflow_add-work c = omega (arith, room c.before.before.before.before)
+
+pub overflow_add-work-then-e-offsets : goal.overflow_add-work-then-e-offsets
+overflow_add-work-then-e-offsets c = omega (arith, room c.before.before.before.before)
+
+pub offset_bounds-work-base-then-e-offsets : goal.offset_bounds-work-base-then-e-offsets
+offset_bounds-work-base-then-e-offsets c = omega (arith, room c.before.before.before.before)
+
+pub bounds-work-base-then-e-offsets : goal.bounds-work-base-then-e-offsets
+bounds-work-base-then-e-offsets c = omega (arith, room c.before.before.before.before)
+
+pub overflow_add-work-then-e-offsets-2 : goal.overflow_add-work-then-e-offsets-2
+overflow_add-work-then-e-offsets-2 c = Fits-widen tt (next_fits c.if-offsets-x.false (c.shared_slice_known-then-e-offsets-2-1.given _))
+
+pub overflow_cast-work-then-e-offsets : goal.overflow_cast-work-then-e-offsets
+overflow_cast-work-then-e-offsets c = next_fits c.if-offsets-x.false (c.shared_slice_known-then-e-offsets-2-1.given _)
+
+pub overflow_add-work-then-e-offsets-3 : goal.overflow_add-work-then-e-offsets-3
+overflow_add-work-then-e-offsets-3 c = omega (arith, room c.before.before.before.before)
+
+pub offset_bounds-work-base-then-e-offsets-2 : goal.offset_bounds-work-base-then-e-offsets-2
+offset_bounds-work-base-then-e-offsets-2 c = omega (arith, room c.before.before.before.before)
+
+pub bounds-work-base-then-e-offsets-2 : goal.bounds-work-base-then-e-offsets-2
+bounds-work-base-then-e-offsets-2 c = simp length-set (omega (arith, room c.before.before.before.before))
+
+pub overflow_add-e : goal.overflow_add-e
+overflow_add-e c = omega (arith, room c.before.before.before.before)
+
+pub loop-u-smaller-then-e-offsets : goal.loop-u-smaller-then-e-offsets
+loop-u-smaller-then-e-offsets c = omega (arith, room c.before.before.before.before)
+
+pub loop-u-preserved-then-e-offsets : goal.loop-u-preserved-then-e-offsets
+loop-u-preserved-then-e-offsets c =
+    turn_step c.requires
+    c.loop-u.invariant
+    c.loop-u-test.true
+    c.if-e-offsets.true
+    c.if-offsets-x.false
+
+pub overflow_add-u-else-e-offsets : goal.overflow_add-u-else-e-offsets
+overflow_add-u-else-e-offsets c = omega arith
+
+pub loop-u-smaller : goal.loop-u-smaller
+loop-u-smaller c = omega (arith, turn_till c.requires c.loop-u.invariant)
+
+pub loop-u-preserved : goal.loop-u-preserved
+loop-u-preserved c =
+    turn_next c.requires
+    c.loop-u.invariant
+    c.loop-u-test.true
+    c.if-e-offsets.false
+
+pub shape_of-work : goal.shape_of-work
+shape_of-work c = c.loop-u.invariant.only.same_length
+
+pub returns : goal.returns
+returns c = turn-done c.requires c.loop-u.invariant c.loop-u-test.false

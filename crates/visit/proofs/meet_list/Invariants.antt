@@ -1,0 +1,13 @@
+use borrow.Author.Rules.{rules}
+use Prim.Native.Nat.{◌≤◌, ◌-◌, ◌+◌}
+use native.Mathlib.Omega.{arith}
+use lib.ListN.{length}
+use Rattle.visit.proofs.Growing.{few}
+use Rattle.visit.proofs.Looking.{Looking, looking_start, list_asks, list_more, list_done}
+use Rattle.visit.proofs.meet_list.Given as goal
+
+abbrev pub invariant-loop-k : goal.invariant-loop-k
+invariant-loop-k l = Looking l.offsets l.targets l.n l.base l.i l.initial.work l.work l.k l.count × (l.k ≤ length l.list)
+
+abbrev pub decreases-loop-k : goal.decreases-loop-k
+decreases-loop-k l = length l.list - l.k
