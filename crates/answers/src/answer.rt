@@ -5,7 +5,7 @@ ghost use Rattle.answers.specs.Answers.{refusal_code, answer_code, interval_code
 use crate::codes::{BAD_SIZE, BAD_TABLE, BAD_VERTEX, DONE, NO_ROOM, TOO_FAR};
 
 // A refusal that any query, or a list of ranges, may give.
-#[derive(Drop)]
+#[derive(Clone, Copy)]
 pub enum Refusal {
     BadSize,
     NoRoom,
@@ -14,7 +14,7 @@ pub enum Refusal {
 }
 
 // A vertex or another number. Only such a query can ask for a step too many, so the refusal for that stands here.
-#[derive(Drop)]
+#[derive(Clone, Copy)]
 pub enum Answer {
     Is(usize),
     TooFar,
@@ -22,14 +22,14 @@ pub enum Answer {
 }
 
 // The numbers from the first up to the second, the second excluded.
-#[derive(Drop)]
+#[derive(Clone, Copy)]
 pub enum Interval {
     Between(usize, usize),
     Refused(Refusal),
 }
 
 // How many ranges were written.
-#[derive(Drop)]
+#[derive(Clone, Copy)]
 pub enum Listed {
     Count(usize),
     Refused(Refusal),

@@ -7,7 +7,7 @@ use crate::answer::Refusal;
 use crate::limits::MAX_VERTICES;
 
 // Whether a query may go on.
-#[derive(Drop)]
+#[derive(Clone, Copy)]
 pub enum Verdict {
     Ready,
     Refused(Refusal),

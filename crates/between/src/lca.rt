@@ -13,13 +13,13 @@ use climb::places::{Climbed, Place};
 use climb::sound::{hangs, reach};
 
 // What the choice of the LCA needs of the place where a climb ended.
-#[derive(Drop)]
+#[derive(Clone, Copy)]
 pub struct Candidate {
     pub vertex: usize,
     pub depth: usize,
 }
 
-#[derive(Drop)]
+#[derive(Clone, Copy)]
 pub enum Ended {
     At(Candidate),
     Nowhere,

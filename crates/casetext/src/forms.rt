@@ -4,7 +4,7 @@ use crate::{NOWHERE, byte_at, find};
 use std::num::{wrapping_add_u32, wrapping_add_usize};
 
 // What a form found: which form it was, counted from 0, its numbers, of which it has at most three, and the position behind it.
-#[derive(Drop)]
+#[derive(Clone, Copy)]
 pub struct Found {
     pub which: u32,
     pub numbers: u32,

@@ -6,14 +6,14 @@ use std::num::wrapping_add_usize;
 const LARGEST: u32 = 4_294_967_295;
 
 // A number and the position behind it, which is NOWHERE where no number stands.
-#[derive(Drop)]
+#[derive(Clone, Copy)]
 pub struct Read {
     pub value: u32,
     pub next: usize,
 }
 
 // How many numbers a list has, and the position behind it.
-#[derive(Drop)]
+#[derive(Clone, Copy)]
 pub struct Listed {
     pub count: usize,
     pub next: usize,

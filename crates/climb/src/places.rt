@@ -4,7 +4,7 @@ ghost use Rattle.climb.specs.Climbing.{ancestor_of};
 ghost use Rattle.climb.specs.Inner.{climb_start, u_moved, v_moved};
 
 // A vertex with what was read of it and of the head of its chain. `up` is the head's parent, NO_PARENT where it has none.
-#[derive(Drop)]
+#[derive(Clone, Copy)]
 pub struct Place {
     pub vertex: usize,
     pub depth: usize,
@@ -17,14 +17,14 @@ pub struct Place {
 
 // What was found where a vertex was reached: where it is not sound, the numbers of the place mean nothing. An enum would say so better, but the
 // compiler then keeps the place in memory and not in registers, and a climb takes a third more instructions.
-#[derive(Drop)]
+#[derive(Clone, Copy)]
 pub struct Reached {
     pub sound: bool,
     pub place: Place,
 }
 
 // A climb from two ends, with the number of chains that each side has left.
-#[derive(Drop)]
+#[derive(Clone, Copy)]
 pub struct Climb {
     pub u: Place,
     pub v: Place,
@@ -32,7 +32,7 @@ pub struct Climb {
     pub v_count: usize,
 }
 
-#[derive(Drop)]
+#[derive(Clone, Copy)]
 pub enum Climbed {
     Met(Climb),
     Lost,

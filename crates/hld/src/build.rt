@@ -1,6 +1,6 @@
 // The build of the six tables.
 ghost use Rattle.graph.specs.Judgement.{Decides};
-ghost use Rattle.tables.specs.Tables.{Long, lent, left, six_of};
+ghost use Rattle.tables.specs.Tables.{Long, six};
 ghost use Rattle.hld.specs.Build.{Builds};
 ghost use Rattle.hld.specs.Steps.{BuildAsks, Built};
 
@@ -22,7 +22,7 @@ fn long(
     order: &[u32],
     size: &[u32],
 ) -> bool
-    ensures { Decides (Long n (lent parent depth head id order size)) result }
+    ensures { Decides (Long n (six parent.old depth.old head.old id.old order.old size.old)) result }
 {
     if parent.len() != n {
         return false;
@@ -56,8 +56,8 @@ fn build(
     size: &mut [u32],
     work: &mut [u32],
 ) -> u32
-    requires { BuildAsks offsets.now targets.now (six_of parent depth head id order size) work.old }
-    ensures { Built offsets.now targets.now root (lent parent depth head id order size) work.old (left parent depth head id order size) work.new result }
+    requires { BuildAsks offsets.now targets.now (six parent.old depth.old head.old id.old order.old size.old) work.old }
+    ensures { Built offsets.now targets.now root (six parent.old depth.old head.old id.old order.old size.old) work.old (six parent.new depth.new head.new id.new order.new size.new) work.new result }
 {
     let code = judge(offsets, targets, root, work);
     if code != DONE {
@@ -85,7 +85,7 @@ pub fn try_hld(
     size: &mut [u32],
     work: &mut [u32],
 ) -> u32
-    ensures { Builds offsets.now targets.now root (lent parent depth head id order size) work.old (left parent depth head id order size) work.new result }
+    ensures { Builds offsets.now targets.now root (six parent.old depth.old head.old id.old order.old size.old) work.old (six parent.new depth.new head.new id.new order.new size.new) work.new result }
 {
     let fits = long(vertices(offsets), parent, depth, head, id, order, size);
     let begun = begin(offsets, targets, fits, work.len());

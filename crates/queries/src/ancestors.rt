@@ -13,7 +13,7 @@ use climb::places::Place;
 use climb::sound::{hangs, reach, reach_above};
 
 // One chain of a lookup: it is done, or goes on at the place of the head's parent with fewer steps left.
-#[derive(Drop)]
+#[derive(Clone, Copy)]
 pub enum Chained {
     Done(Answer),
     Up(Place, usize),

@@ -7,7 +7,7 @@ use crate::kinds::{Direction, Kind, PathRange, Piece};
 use climb::places::Climb;
 
 // The range of the last chain, or none where it would be empty.
-#[derive(Drop)]
+#[derive(Clone, Copy)]
 pub enum Last {
     One(PathRange),
     Empty,

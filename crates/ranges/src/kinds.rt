@@ -3,14 +3,14 @@ ghost use Rattle.std.specs.Prelude.{◌≡◌};
 ghost use Rattle.ranges.specs.Ranges.{piece};
 
 // How a range is read: from its first number to its last, or the other way.
-#[derive(Drop)]
+#[derive(Clone, Copy)]
 pub enum Direction {
     Forward,
     Reversed,
 }
 
 // The vertices that a path has on one chain: their numbers from `from` up to `to`, the end excluded, and how they are read.
-#[derive(Drop)]
+#[derive(Clone, Copy)]
 pub struct Piece {
     pub from: usize,
     pub to: usize,
@@ -31,7 +31,7 @@ impl Piece {
 }
 
 // The numbers from start up to end, the end excluded.
-#[derive(Drop)]
+#[derive(Clone, Copy)]
 pub struct PathRange {
     pub start: usize,
     pub end: usize,
@@ -42,7 +42,7 @@ pub struct PathRange {
 pub const STRIDE: usize = 3;
 
 // Vertices, edges by their children, or both in the doubled numbers.
-#[derive(Drop)]
+#[derive(Clone, Copy)]
 pub enum Kind {
     Vertices,
     Edges,

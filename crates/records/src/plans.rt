@@ -12,7 +12,7 @@ use rangelists::values::{MOST_NUMBERS, PathRanges, ranges_by_value};
 use ranges::kinds::{Kind, PathRange};
 
 // What a call answers, how many records it writes, and the numbers of its ranges.
-#[derive(Drop)]
+#[derive(Clone, Copy)]
 pub struct Plan {
     pub listed: Listed,
     pub count: usize,

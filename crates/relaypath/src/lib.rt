@@ -6,7 +6,7 @@ pub mod handed;
 pub mod listing;
 
 ghost use Rattle.graph.specs.Validation.{Validates};
-ghost use Rattle.tables.specs.Tables.{lent, left};
+ghost use Rattle.tables.specs.Tables.{six};
 ghost use Rattle.hld.specs.Build.{Builds};
 
 // Judges the graph of offsets and targets, seen from root: 0 for a tree, else the code of the first test that is not passed. Work needs
@@ -39,7 +39,7 @@ pub extern "C" fn relaypath_try_hld(
     size: &mut [u32],
     work: &mut [u32],
 ) -> u32
-    ensures { Builds offsets.now targets.now root (lent parent depth head id order size) work.old (left parent depth head id order size) work.new result }
+    ensures { Builds offsets.now targets.now root (six parent.old depth.old head.old id.old order.old size.old) work.old (six parent.new depth.new head.new id.new order.new size.new) work.new result }
 {
     hld::build::try_hld(
         offsets, targets, root, parent, depth, head, id, order, size, work,

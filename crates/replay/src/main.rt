@@ -14,7 +14,7 @@ const MAX_VERTICES: usize = 64;
 const MAX_TARGETS: usize = 256;
 
 // What stands at one place of the sample.
-#[derive(Drop)]
+#[derive(Clone, Copy)]
 enum Step {
     // A case with the original's code, whether the two agree, and where the next case starts.
     Case { code: u32, agree: bool, next: usize },
@@ -22,7 +22,7 @@ enum Step {
 }
 
 // The cases so far, by the original's code, and on how many the two agree.
-#[derive(Drop)]
+#[derive(Clone, Copy)]
 struct Counts {
     trees: u64,
     disconnected: u64,

@@ -14,7 +14,7 @@ enum Text {
 }
 
 // A case of the sample.
-#[derive(Drop)]
+#[derive(Clone, Copy)]
 enum Step {
     // Whether its file has a tree, whether the reports agree, and where the next case starts.
     Case {
@@ -26,7 +26,7 @@ enum Step {
 }
 
 // The cases so far: those with a tree and those that are refused, and on how many the reports agree.
-#[derive(Drop)]
+#[derive(Clone, Copy)]
 struct Counts {
     cases: u64,
     trees: u64,

@@ -21,7 +21,7 @@ const NONE: u32 = 65_535;
 const UNWRITTEN: u32 = 2_779_096_485;
 
 // What stands at one place of the sample.
-#[derive(Drop)]
+#[derive(Clone, Copy)]
 enum Step {
     // A case of n vertices, whether all tables agree, and where the next case starts.
     Case { n: u64, agree: bool, next: usize },
@@ -29,7 +29,7 @@ enum Step {
 }
 
 // The cases so far: their vertices, and on how many the two agree.
-#[derive(Drop)]
+#[derive(Clone, Copy)]
 struct Counts {
     vertices: u64,
     agree: u64,

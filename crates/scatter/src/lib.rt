@@ -1,6 +1,7 @@
 // The last pass of the build: from positions of the visit to tables by vertex.
+#![tactic(auto)]
 ghost use Rattle.std.specs.Prelude.{◌<◌, ◌≡◌};
-ghost use Rattle.tables.specs.Tables.{lent, left, six_of};
+ghost use Rattle.tables.specs.Tables.{six};
 ghost use Rattle.scatter.specs.Scatter.{Parented, parent_at, scattered, ScatterAsks, Filled};
 
 use answers::limits::NO_PARENT;
@@ -30,8 +31,8 @@ fn scatter_one(
     size: &mut [u32],
     work: &[u32],
 )
-    requires { (j < n) × ScatterAsks n work.now (six_of parent depth head id order size) }
-    ensures { left parent depth head id order size ≡ scattered n work.now j (lent parent depth head id order size) }
+    requires { (j < n) × ScatterAsks n work.now (six parent.old depth.old head.old id.old order.old size.old) }
+    ensures { six parent.new depth.new head.new id.new order.new size.new ≡ scattered n work.now j (six parent.old depth.old head.old id.old order.old size.old) }
 {
     let v = work[j] as usize;
     let top = work[TOP * n + j] as usize;
@@ -55,8 +56,8 @@ pub fn scatter(
     size: &mut [u32],
     work: &[u32],
 )
-    requires { ScatterAsks n work.now (six_of parent depth head id order size) }
-    ensures { Filled n work.now n (left parent depth head id order size) }
+    requires { ScatterAsks n work.now (six parent.old depth.old head.old id.old order.old size.old) }
+    ensures { Filled n work.now n (six parent.new depth.new head.new id.new order.new size.new) }
 {
     let mut j: usize = 0;
     while j < n {

@@ -45,17 +45,13 @@ TablesOf n A root t = NumberingOf n A root t (kids_by_rule_one A t)
 abbrev pub six : (parent depth head id order size : List ℕ) → Six
 six parent depth head id order size = record { parent = parent; depth = depth; head = head; id = id; order = order; size = size }
 
--- In contracts: the six tables that a call is lent, as they were when it began; what it left in them; and, in what a function asks, as they are.
+-- In contracts: the six tables that a call is lent to read, in what it answers and in what it asks. A call that writes them says `six` of what they
+-- were and of what it left in them.
 
 abbrev pub lent : {A B C D E F : Type 0}
     → Both (Bor (List ℕ)) A → Both (Bor (List ℕ)) B → Both (Bor (List ℕ)) C → Both (Bor (List ℕ)) D → Both (Bor (List ℕ)) E → Both (Bor (List ℕ)) F → Six
 lent parent depth head id order size =
     six parent.entry.now depth.entry.now head.entry.now id.entry.now order.entry.now size.entry.now
-
-abbrev pub left : {A B C D E F : Type 0}
-    → Both A (Bor (List ℕ)) → Both B (Bor (List ℕ)) → Both C (Bor (List ℕ)) → Both D (Bor (List ℕ)) → Both E (Bor (List ℕ)) → Both F (Bor (List ℕ)) → Six
-left parent depth head id order size =
-    six parent.exit.now depth.exit.now head.exit.now id.exit.now order.exit.now size.exit.now
 
 abbrev pub six_of : (parent depth head id order size : Bor (List ℕ)) → Six
 six_of parent depth head id order size = six parent.now depth.now head.now id.now order.now size.now

@@ -18,7 +18,7 @@ pub const MAX_QUERIES: usize = 64;
 const MAX_ROOTS: usize = 1;
 
 // How many offsets, targets and queries a file has, and its root; all 0 where it is not good.
-#[derive(Drop)]
+#[derive(Clone, Copy)]
 pub struct Shape {
     pub good: bool,
     pub offsets: usize,
@@ -28,14 +28,14 @@ pub struct Shape {
 }
 
 // The count of a section that is whole and within its limit.
-#[derive(Drop)]
+#[derive(Clone, Copy)]
 pub enum Found {
     Count(usize),
     Cut,
 }
 
 // How many offsets and targets a tree has, its root, and the place behind its sections.
-#[derive(Drop)]
+#[derive(Clone, Copy)]
 pub enum TreeFound {
     Sections {
         offsets: usize,

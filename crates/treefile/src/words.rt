@@ -4,7 +4,7 @@ ghost use Rattle.treefile.specs.File.{numbers};
 ghost use Rattle.treefile.specs.Sections.{bytes_in, Little, Number, Copies, copied};
 
 // How wide the numbers are: 16 bits or 32.
-#[derive(Drop)]
+#[derive(Clone, Copy)]
 pub enum Width {
     Narrow,
     Wide,

@@ -1,5 +1,5 @@
 // The report of a whole file.
-ghost use Rattle.tables.specs.Tables.{lent, left, six_of};
+ghost use Rattle.tables.specs.Tables.{six};
 ghost use Rattle.treefile.specs.File.{file};
 ghost use Rattle.treereport.specs.Reports.{Written, Reports};
 ghost use Rattle.treereport.specs.Filing.{file_of, TreeAsks, Told, FileAsks};
@@ -33,8 +33,8 @@ fn report_tree(
     count: usize,
     out: &mut [u8],
 ) -> usize
-    requires { TreeAsks offsets.now targets.now (six_of parent depth head id order size) queries.now count out.old }
-    ensures { Told (file_of offsets.now targets.now root queries.now count) (lent parent depth head id order size) (left parent depth head id order size) out.old out.new result }
+    requires { TreeAsks offsets.now targets.now (six parent.old depth.old head.old id.old order.old size.old) queries.now count out.old }
+    ensures { Told (file_of offsets.now targets.now root queries.now count) (six parent.old depth.old head.old id.old order.old size.old) (six parent.new depth.new head.new id.new order.new size.new) out.old out.new result }
 {
     let mut work = [0u32; 8 * MAX_VERTICES + MAX_TARGETS];
     let code = try_hld(

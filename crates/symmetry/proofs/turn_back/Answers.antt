@@ -6,22 +6,7 @@ use Rattle.sums.specs.Sum.{at}
 use Rattle.symmetry.specs.Inner.{BackLoop}
 use Rattle.symmetry.proofs.Loops.{next_fits}
 use Rattle.symmetry.proofs.LoopBack.{BackRoom, back_start, back_room, back_step, back_next, back_full, back_other, back_done}
-use Rattle.symmetry.proofs.turn_back.Lts as lts
 use Rattle.symmetry.proofs.turn_back.Goals as goal
-
--- what is known of the entry in hand
-room : (c : lts.Then1 reads.Pre reads.Post invariant-loop decreases-loop)
-    → BackRoom c.before.before.before.before.args.offsets.now
-    c.before.before.before.before.args.n
-    c.before.before.before.before.args.base
-    c.before.before.before.before.args.work.now
-    c.before.before.before.loop.work
-    c.before.before.before.loop.e
-room c =
-    back_room c.before.before.before.before.requires
-    c.before.before.before.loop.invariant
-    c.before.before.loop-test.true
-    c.if1.true
 
 pub loop-u-init : goal.loop-u-init
 loop-u-init c = back_start c.requires
@@ -39,40 +24,40 @@ pub overflow_cast-offsets : goal.overflow_cast-offsets
 overflow_cast-offsets c = Fits-widen tt (c.shared_slice_known-1.given _)
 
 pub overflow_add-x : goal.overflow_add-x
-overflow_add-x c = omega (arith, room c)
+overflow_add-x c = omega (arith, back_room c.requires c.loop-u.invariant c.loop-u-test.true c.if-e-offsets.true)
 
 pub overflow_add-x-then-e-offsets : goal.overflow_add-x-then-e-offsets
-overflow_add-x-then-e-offsets c = omega (arith, room c)
+overflow_add-x-then-e-offsets c = omega (arith, back_room c.requires c.loop-u.invariant c.loop-u-test.true c.if-e-offsets.true)
 
 pub offset_bounds-work-base : goal.offset_bounds-work-base
-offset_bounds-work-base c = omega (arith, room c)
+offset_bounds-work-base c = omega (arith, back_room c.requires c.loop-u.invariant c.loop-u-test.true c.if-e-offsets.true)
 
 pub bounds-work-base : goal.bounds-work-base
-bounds-work-base c = omega (arith, room c.before)
+bounds-work-base c = omega (arith, back_room c.requires c.loop-u.invariant c.loop-u-test.true c.if-e-offsets.true)
 
 pub overflow_cast-x : goal.overflow_cast-x
 overflow_cast-x c = Fits-widen tt (c.slice_known-1.given _)
 
 pub overflow_add-next : goal.overflow_add-next
-overflow_add-next c = omega (arith, room c.before)
+overflow_add-next c = omega (arith, back_room c.requires c.loop-u.invariant c.loop-u-test.true c.if-e-offsets.true)
 
 pub offset_bounds-work-base-then-e-offsets : goal.offset_bounds-work-base-then-e-offsets
-offset_bounds-work-base-then-e-offsets c = omega (arith, room c.before)
+offset_bounds-work-base-then-e-offsets c = omega (arith, back_room c.requires c.loop-u.invariant c.loop-u-test.true c.if-e-offsets.true)
 
 pub bounds-work-base-then-e-offsets : goal.bounds-work-base-then-e-offsets
-bounds-work-base-then-e-offsets c = omega (arith, room c.before.before)
+bounds-work-base-then-e-offsets c = omega (arith, back_room c.requires c.loop-u.invariant c.loop-u-test.true c.if-e-offsets.true)
 
 pub overflow_cast-next : goal.overflow_cast-next
 overflow_cast-next c = Fits-widen tt (c.slice_known-then-e-offsets-1.given _)
 
 pub overflow_add-x-then-e-offsets-2 : goal.overflow_add-x-then-e-offsets-2
-overflow_add-x-then-e-offsets-2 c = omega (arith, room c.before.before)
+overflow_add-x-then-e-offsets-2 c = omega (arith, back_room c.requires c.loop-u.invariant c.loop-u-test.true c.if-e-offsets.true)
 
 pub offset_bounds-offsets-x : goal.offset_bounds-offsets-x
-offset_bounds-offsets-x c = omega (arith, room c.before.before)
+offset_bounds-offsets-x c = omega (arith, back_room c.requires c.loop-u.invariant c.loop-u-test.true c.if-e-offsets.true)
 
 pub bounds-offsets-x : goal.bounds-offsets-x
-bounds-offsets-x c = omega (arith, room c.before.before.before)
+bounds-offsets-x c = omega (arith, back_room c.requires c.loop-u.invariant c.loop-u-test.true c.if-e-offsets.true)
 
 pub overflow_cast-offsets-then-e-offsets : goal.overflow_cast-offsets-then-e-offsets
 overflow_cast-offsets-then-e-offsets c = Fits-widen tt (c.shared_slice_known-then-e-offsets-1.given _)
@@ -89,16 +74,16 @@ returns-then-offsets-x c =
     c.if-offsets-x.true
 
 pub overflow_add-base : goal.overflow_add-base
-overflow_add-base c = omega (arith, room c.before.before.before.before)
+overflow_add-base c = omega (arith, back_room c.requires c.loop-u.invariant c.loop-u-test.true c.if-e-offsets.true)
 
 pub overflow_add-base-then-e-offsets : goal.overflow_add-base-then-e-offsets
-overflow_add-base-then-e-offsets c = omega (arith, room c.before.before.before.before)
+overflow_add-base-then-e-offsets c = omega (arith, back_room c.requires c.loop-u.invariant c.loop-u-test.true c.if-e-offsets.true)
 
 pub offset_bounds-work-base-then-e-offsets-2 : goal.offset_bounds-work-base-then-e-offsets-2
-offset_bounds-work-base-then-e-offsets-2 c = omega (arith, room c.before.before.before.before)
+offset_bounds-work-base-then-e-offsets-2 c = omega (arith, back_room c.requires c.loop-u.invariant c.loop-u-test.true c.if-e-offsets.true)
 
 pub bounds-work-base-then-e-offsets-2 : goal.bounds-work-base-then-e-offsets-2
-bounds-work-base-then-e-offsets-2 c = omega (arith, room c.before.before.before.before.before)
+bounds-work-base-then-e-offsets-2 c = omega (arith, back_room c.requires c.loop-u.invariant c.loop-u-test.true c.if-e-offsets.true)
 
 pub overflow_cast-work : goal.overflow_cast-work
 overflow_cast-work c = Fits-widen tt (c.slice_known-then-e-offsets-2-1.given _)
@@ -121,19 +106,19 @@ pub overflow_cast-work-then-e-offsets : goal.overflow_cast-work-then-e-offsets
 overflow_cast-work-then-e-offsets c = next_fits c.if-offsets-x.false (c.shared_slice_known-then-e-offsets-1.given _)
 
 pub overflow_add-work-then-e-offsets : goal.overflow_add-work-then-e-offsets
-overflow_add-work-then-e-offsets c = omega (arith, room c.before.before.before.before.before.before)
+overflow_add-work-then-e-offsets c = omega (arith, back_room c.requires c.loop-u.invariant c.loop-u-test.true c.if-e-offsets.true)
 
 pub offset_bounds-work-base-then-e-offsets-3 : goal.offset_bounds-work-base-then-e-offsets-3
-offset_bounds-work-base-then-e-offsets-3 c = omega (arith, room c.before.before.before.before.before.before)
+offset_bounds-work-base-then-e-offsets-3 c = omega (arith, back_room c.requires c.loop-u.invariant c.loop-u-test.true c.if-e-offsets.true)
 
 pub bounds-work-base-then-e-offsets-3 : goal.bounds-work-base-then-e-offsets-3
-bounds-work-base-then-e-offsets-3 c = omega (arith, room c.before.before.before.before.before.before)
+bounds-work-base-then-e-offsets-3 c = omega (arith, back_room c.requires c.loop-u.invariant c.loop-u-test.true c.if-e-offsets.true)
 
 pub overflow_add-e : goal.overflow_add-e
-overflow_add-e c = omega (arith, room c.before.before.before.before.before.before)
+overflow_add-e c = omega (arith, back_room c.requires c.loop-u.invariant c.loop-u-test.true c.if-e-offsets.true)
 
 pub loop-u-smaller-then-e-offsets : goal.loop-u-smaller-then-e-offsets
-loop-u-smaller-then-e-offsets c = omega (arith, room c.before.before.before.before.before.before)
+loop-u-smaller-then-e-offsets c = omega (arith, back_room c.requires c.loop-u.invariant c.loop-u-test.true c.if-e-offsets.true)
 
 pub loop-u-preserved-then-e-offsets : goal.loop-u-preserved-then-e-offsets
 loop-u-preserved-then-e-offsets c =
