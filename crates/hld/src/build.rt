@@ -1,6 +1,6 @@
 // The build of the six tables.
 ghost use Rattle.graph.specs.Judgement.{Decides};
-ghost use Rattle.tables.specs.Tables.{Long, six};
+ghost use Rattle.tables.specs.Tables.{Long, six, lent};
 ghost use Rattle.hld.specs.Build.{Builds};
 ghost use Rattle.hld.specs.Steps.{BuildAsks, Built};
 
@@ -22,7 +22,7 @@ fn long(
     order: &[u32],
     size: &[u32],
 ) -> bool
-    ensures { Decides (Long n (six parent.old depth.old head.old id.old order.old size.old)) result }
+    ensures { Decides (Long n (lent parent depth head id order size)) result }
 {
     if parent.len() != n {
         return false;

@@ -73,10 +73,10 @@ module _ (n : ℕ) (t : Six) where
   ascending-ends zero zero p q i j = look-ends 0 0 p q (λ r. strays) (λ r. strays) i j (λ r k. tt) (λ r k. tt)
   ascending-ends zero (suc b) p q i j =
       look-ends 0 (suc b) p q (λ r. strays) (λ r. ascending 0 b n t p r) i j (λ r k. tt)
-      (λ r k. more_v 0 b q (ascending 0 b n t p r) (ascending-ends 0 b p r i k))
+      (λ r k. more_v 0 b q (ascending 0 b n t p r) (ascending-ends zero b p r i k))
   ascending-ends (suc a) zero p q i j =
       look-ends (suc a) 0 p q (λ r. ascending a 0 n t r q) (λ r. strays) i j
-      (λ r k. more_u a 0 p (ascending a 0 n t r q) (ascending-ends a 0 r q k j)) (λ r k. tt)
+      (λ r k. more_u a 0 p (ascending a 0 n t r q) (ascending-ends a zero r q k j)) (λ r k. tt)
   ascending-ends (suc a) (suc b) p q i j =
       look-ends (suc a) (suc b) p q (λ r. ascending a (suc b) n t r q) (λ r. ascending (suc a) b n t p r) i j
       (λ r k. more_u a (suc b) p (ascending a (suc b) n t r q) (ascending-ends a (suc b) r q k j))

@@ -1,0 +1,15 @@
+-- `reads::vertex_count` meets its contract.
+use borrow.Author.Rules.{rules}
+use mathlib.Core.Path.{sym, ◌∙◌}
+use mathlib.Core.List.{[]}
+use Rattle.tables.specs.Tables.{Six, six}
+use Rattle.answers.specs.declared.answer.Answer.TheVariants.{Refused}
+use Rattle.climb.proofs.Passed.{Passed, verdict_passed, verdict_refused}
+use Rattle.queries.proofs.Reading.{count_answer}
+use Rattle.queries.proofs.reads.vertex_count.Goals as goal
+
+pub returns-in-Refused : goal.returns-in-Refused
+returns-in-Refused c = verdict_refused ((six c.args.parent.now c.args.depth.now c.args.head.now c.args.id.now c.args.order.now c.args.size.now)) ([]) Refused _ (sym c.asked.ensures ∙ c.in-Refused.is)
+
+pub returns : goal.returns
+returns c = count_answer _ ((verdict_passed ((six c.args.parent.now c.args.depth.now c.args.head.now c.args.id.now c.args.order.now c.args.size.now)) ([]) (sym c.asked.ensures ∙ c.in_default.is)))

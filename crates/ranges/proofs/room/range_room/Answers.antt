@@ -1,0 +1,26 @@
+-- `room::range_room` meets its contract.
+use borrow.Author.Rules.{rules}
+use native.Mathlib.Omega.{arith}
+use borrow.Author.Tests.{le-leb, lt-leb}
+use Rattle.answers.specs.Limits.{max_vertices}
+use Rattle.ranges.proofs.Bounds.{log2_bounded}
+use Rattle.ranges.proofs.room.range_room.Goals as goal
+
+pub returns-then-n-lt1 : goal.returns-then-n-lt1
+returns-then-n-lt1 c = rw (lt-leb 1 _ c.if-n-lt1.true)
+
+pub returns-then-n-gt-MAX_VERTICES : goal.returns-then-n-gt-MAX_VERTICES
+unfolding max_vertices
+returns-then-n-gt-MAX_VERTICES c = rw (le-leb 1 _ c.if-n-lt1.false, lt-leb _ max_vertices c.if-n-gt-MAX_VERTICES.true)
+
+pub overflow_mul-result : goal.overflow_mul-result
+unfolding max_vertices
+overflow_mul-result c = omega (arith, log2_bounded _ c.if-n-lt1.false c.if-n-gt-MAX_VERTICES.false, c.floor_log2.ensures)
+
+pub overflow_add-result : goal.overflow_add-result
+unfolding max_vertices
+overflow_add-result c = omega (arith, log2_bounded _ c.if-n-lt1.false c.if-n-gt-MAX_VERTICES.false, c.floor_log2.ensures)
+
+pub returns : goal.returns
+unfolding max_vertices
+returns c = rw (le-leb 1 _ c.if-n-lt1.false, le-leb _ max_vertices c.if-n-gt-MAX_VERTICES.false, c.floor_log2.ensures)
