@@ -1,4 +1,5 @@
 // Centroid decomposition and component lists.
+#![tactic(auto)]
 pub mod decompose;
 pub mod regions;
 pub mod search;

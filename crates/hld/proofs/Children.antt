@@ -25,10 +25,12 @@ use Rattle.visit.proofs.Positions.{Places}
 
 -- what stands in a mapped list
 pub map_in : (f : ℕ → ℕ) (l : List ℕ) (y : ℕ) → In y (map f l) → (x : ℕ) × In x l × (f x ≡ y)
+map_in f [] y h = absurd h
 map_in f (z ∷ l) y (inl e) = (z, inl refl, sym e)
 map_in f (z ∷ l) y (inr i) = (let r = map_in f l y i in (r.0, inr r.1, r.2))
 
 pub in_map : (f : ℕ → ℕ) (l : List ℕ) (x : ℕ) → In x l → In (f x) (map f l)
+in_map f [] x h = absurd h
 in_map f (z ∷ l) x (inl e) = inl (ap f e)
 in_map f (z ∷ l) x (inr i) = inr (in_map f l x i)
 

@@ -1,2 +1,3 @@
 // Heavy-light decomposition: the six tables of a tree.
+#![tactic(auto)]
 pub mod build;

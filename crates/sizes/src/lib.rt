@@ -1,2 +1,3 @@
 // Queries on subtrees: their numbers and sizes.
+#![tactic(auto)]
 pub mod subtrees;

@@ -8,10 +8,16 @@ use Rattle.climb.proofs.Passed.{Passed, verdict_passed, verdict_refused, answere
 use Rattle.queries.proofs.ancestors.kth_ancestor.Goals as goal
 
 pub returns-in-Refused : goal.returns-in-Refused
-returns-in-Refused c = verdict_refused ((six c.args.parent.now c.args.depth.now c.args.head.now c.args.id.now c.args.order.now c.args.size.now)) (c.args.v ∷ []) Refused _ (sym c.asked.ensures ∙ c.in-Refused.is)
+returns-in-Refused c =
+    let t = six c.args.parent.now c.args.depth.now c.args.head.now c.args.id.now c.args.order.now c.args.size.now in
+    verdict_refused t (c.args.v ∷ []) Refused _ (sym c.asked.ensures ∙ c.in-Refused.is)
 
 pub ancestor_in-requires : goal.ancestor_in-requires
-ancestor_in-requires c = record { even = (lengths ((verdict_passed ((six c.args.parent.now c.args.depth.now c.args.head.now c.args.id.now c.args.order.now c.args.size.now)) (c.args.v ∷ []) (sym c.asked.ensures ∙ c.in_default.is)))).even; order = (lengths ((verdict_passed ((six c.args.parent.now c.args.depth.now c.args.head.now c.args.id.now c.args.order.now c.args.size.now)) (c.args.v ∷ []) (sym c.asked.ensures ∙ c.in_default.is)))).order; vertex = first_below ((verdict_passed ((six c.args.parent.now c.args.depth.now c.args.head.now c.args.id.now c.args.order.now c.args.size.now)) (c.args.v ∷ []) (sym c.asked.ensures ∙ c.in_default.is))) }
+ancestor_in-requires c =
+    let t = six c.args.parent.now c.args.depth.now c.args.head.now c.args.id.now c.args.order.now c.args.size.now in
+    record { even = (lengths (verdict_passed t (c.args.v ∷ []) (sym c.asked.ensures ∙ c.in_default.is))).even; order = (lengths (verdict_passed t (c.args.v ∷ []) (sym c.asked.ensures ∙ c.in_default.is))).order; vertex = first_below (verdict_passed t (c.args.v ∷ []) (sym c.asked.ensures ∙ c.in_default.is)) }
 
 pub returns : goal.returns
-returns c = answered ((verdict_passed ((six c.args.parent.now c.args.depth.now c.args.head.now c.args.id.now c.args.order.now c.args.size.now)) (c.args.v ∷ []) (sym c.asked.ensures ∙ c.in_default.is))) Refused (c.ancestor_in.ensures _)
+returns c =
+    let t = six c.args.parent.now c.args.depth.now c.args.head.now c.args.id.now c.args.order.now c.args.size.now in
+    answered (verdict_passed t (c.args.v ∷ []) (sym c.asked.ensures ∙ c.in_default.is)) Refused (c.ancestor_in.ensures _)

@@ -13,22 +13,34 @@ use Rattle.queries.proofs.Reading.{root-beyond, root_off, root_on}
 use Rattle.queries.proofs.reads.root.Goals as goal
 
 pub returns-in-Refused : goal.returns-in-Refused
-returns-in-Refused c = verdict_refused ((six c.args.parent.now c.args.depth.now c.args.head.now c.args.id.now c.args.order.now c.args.size.now)) [] Refused _ (sym c.asked.ensures ∙ c.in-Refused.is)
+returns-in-Refused c =
+    let t = six c.args.parent.now c.args.depth.now c.args.head.now c.args.id.now c.args.order.now c.args.size.now in
+    verdict_refused t [] Refused _ (sym c.asked.ensures ∙ c.in-Refused.is)
 
 pub bounds-order-0 : goal.bounds-order-0
-bounds-order-0 c = omega (arith, (lengths ((verdict_passed ((six c.args.parent.now c.args.depth.now c.args.head.now c.args.id.now c.args.order.now c.args.size.now)) ([]) (sym c.asked.ensures ∙ c.in_default.is)))).order, (lengths ((verdict_passed ((six c.args.parent.now c.args.depth.now c.args.head.now c.args.id.now c.args.order.now c.args.size.now)) ([]) (sym c.asked.ensures ∙ c.in_default.is)))).some)
+bounds-order-0 c =
+    let t = six c.args.parent.now c.args.depth.now c.args.head.now c.args.id.now c.args.order.now c.args.size.now in
+    omega (arith, (lengths (verdict_passed t ([]) (sym c.asked.ensures ∙ c.in_default.is))).order, (lengths (verdict_passed t ([]) (sym c.asked.ensures ∙ c.in_default.is))).some)
 
 pub overflow_cast-r : goal.overflow_cast-r
 overflow_cast-r c = Fits-widen tt (c.shared_slice_known-7-1.given _)
 
 pub returns-then-parent-r : goal.returns-then-parent-r
-returns-then-parent-r c = root-beyond _ ((verdict_passed ((six c.args.parent.now c.args.depth.now c.args.head.now c.args.id.now c.args.order.now c.args.size.now)) ([]) (sym c.asked.ensures ∙ c.in_default.is))) c.if-parent-r.true
+returns-then-parent-r c =
+    let t = six c.args.parent.now c.args.depth.now c.args.head.now c.args.id.now c.args.order.now c.args.size.now in
+    root-beyond _ (verdict_passed t ([]) (sym c.asked.ensures ∙ c.in_default.is)) c.if-parent-r.true
 
 pub stand-found-requires : goal.stand-found-requires
-stand-found-requires c = record { even = (lengths ((verdict_passed ((six c.args.parent.now c.args.depth.now c.args.head.now c.args.id.now c.args.order.now c.args.size.now)) ([]) (sym c.asked.ensures ∙ c.in_default.is)))).even; vertex = c.if-parent-r.false }
+stand-found-requires c =
+    let t = six c.args.parent.now c.args.depth.now c.args.head.now c.args.id.now c.args.order.now c.args.size.now in
+    record { even = (lengths (verdict_passed t ([]) (sym c.asked.ensures ∙ c.in_default.is))).even; vertex = c.if-parent-r.false }
 
 pub returns-then-not-found : goal.returns-then-not-found
-returns-then-not-found c = root_off _ ((verdict_passed ((six c.args.parent.now c.args.depth.now c.args.head.now c.args.id.now c.args.order.now c.args.size.now)) ([]) (sym c.asked.ensures ∙ c.in_default.is))) c.if-parent-r.false (stood_off _ _ _ _ c.stand-found.ensures (not-true _ c.if-not-found.true) _ _)
+returns-then-not-found c =
+    let t = six c.args.parent.now c.args.depth.now c.args.head.now c.args.id.now c.args.order.now c.args.size.now in
+    root_off _ (verdict_passed t ([]) (sym c.asked.ensures ∙ c.in_default.is)) c.if-parent-r.false (stood_off _ _ _ _ c.stand-found.ensures (not-true _ c.if-not-found.true) _ _)
 
 pub returns : goal.returns
-returns c = root_on _ ((verdict_passed ((six c.args.parent.now c.args.depth.now c.args.head.now c.args.id.now c.args.order.now c.args.size.now)) ([]) (sym c.asked.ensures ∙ c.in_default.is))) c.if-parent-r.false (stood_on _ _ _ _ c.stand-found.ensures (not-false _ c.if-not-found.false) _ _)
+returns c =
+    let t = six c.args.parent.now c.args.depth.now c.args.head.now c.args.id.now c.args.order.now c.args.size.now in
+    root_on _ (verdict_passed t ([]) (sym c.asked.ensures ∙ c.in_default.is)) c.if-parent-r.false (stood_on _ _ _ _ c.stand-found.ensures (not-false _ c.if-not-found.false) _ _)

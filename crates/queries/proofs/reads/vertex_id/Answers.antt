@@ -13,13 +13,21 @@ use Rattle.climb.proofs.Soundness.{stood_place}
 use Rattle.queries.proofs.reads.vertex_id.Goals as goal
 
 pub returns-in-Refused : goal.returns-in-Refused
-returns-in-Refused c = verdict_refused ((six c.args.parent.now c.args.depth.now c.args.head.now c.args.id.now c.args.order.now c.args.size.now)) (c.args.v ∷ []) Refused _ (sym c.asked.ensures ∙ c.in-Refused.is)
+returns-in-Refused c =
+    let t = six c.args.parent.now c.args.depth.now c.args.head.now c.args.id.now c.args.order.now c.args.size.now in
+    verdict_refused t (c.args.v ∷ []) Refused _ (sym c.asked.ensures ∙ c.in-Refused.is)
 
 pub stand-found-requires : goal.stand-found-requires
-stand-found-requires c = record { even = (lengths ((verdict_passed ((six c.args.parent.now c.args.depth.now c.args.head.now c.args.id.now c.args.order.now c.args.size.now)) (c.args.v ∷ []) (sym c.asked.ensures ∙ c.in_default.is)))).even; vertex = first_below ((verdict_passed ((six c.args.parent.now c.args.depth.now c.args.head.now c.args.id.now c.args.order.now c.args.size.now)) (c.args.v ∷ []) (sym c.asked.ensures ∙ c.in_default.is))) }
+stand-found-requires c =
+    let t = six c.args.parent.now c.args.depth.now c.args.head.now c.args.id.now c.args.order.now c.args.size.now in
+    record { even = (lengths (verdict_passed t (c.args.v ∷ []) (sym c.asked.ensures ∙ c.in_default.is))).even; vertex = first_below (verdict_passed t (c.args.v ∷ []) (sym c.asked.ensures ∙ c.in_default.is)) }
 
 pub returns-then-not-found : goal.returns-then-not-found
-returns-then-not-found c = read_off _ _ ((verdict_passed ((six c.args.parent.now c.args.depth.now c.args.head.now c.args.id.now c.args.order.now c.args.size.now)) (c.args.v ∷ []) (sym c.asked.ensures ∙ c.in_default.is))) _ (stood_off _ _ _ _ c.stand-found.ensures (not-true _ c.if-not-found.true) _ _)
+returns-then-not-found c =
+    let t = six c.args.parent.now c.args.depth.now c.args.head.now c.args.id.now c.args.order.now c.args.size.now in
+    read_off _ _ (verdict_passed t (c.args.v ∷ []) (sym c.asked.ensures ∙ c.in_default.is)) _ (stood_off _ _ _ _ c.stand-found.ensures (not-true _ c.if-not-found.true) _ _)
 
 pub returns : goal.returns
-returns c = read_on _ _ ((verdict_passed ((six c.args.parent.now c.args.depth.now c.args.head.now c.args.id.now c.args.order.now c.args.size.now)) (c.args.v ∷ []) (sym c.asked.ensures ∙ c.in_default.is))) _ (stood_on _ _ _ _ c.stand-found.ensures (not-false _ c.if-not-found.false) _ _) (ap (λ (q : Place). q.id) (stood_place _ _ _ (stood_on _ _ _ _ c.stand-found.ensures (not-false _ c.if-not-found.false) [] [])))
+returns c =
+    let t = six c.args.parent.now c.args.depth.now c.args.head.now c.args.id.now c.args.order.now c.args.size.now in
+    read_on _ _ (verdict_passed t (c.args.v ∷ []) (sym c.asked.ensures ∙ c.in_default.is)) _ (stood_on _ _ _ _ c.stand-found.ensures (not-false _ c.if-not-found.false) _ _) (ap (λ (q : Place). q.id) (stood_place _ _ _ (stood_on _ _ _ _ c.stand-found.ensures (not-false _ c.if-not-found.false) [] [])))

@@ -1,0 +1,12 @@
+use Prim.Native.Nat.{◌-◌}
+use native.Mathlib.Omega.{arith}
+use mathlib.Core.Path.{◌∙◌, sym}
+use lib.ListN.{length-set}
+use Rattle.centroid.proofs.Decomposing.{Going, begun_only, going_start, going_few, going_asks, going_more, going_done}
+use Rattle.centroid.proofs.decompose.decompose.Given as goal
+
+abbrev pub invariant-loop-head : goal.invariant-loop-head
+invariant-loop-head l = Going l.offsets l.targets l.n l.initial.work l.parent l.level l.work l.head l.tail
+
+abbrev pub decreases-loop-head : goal.decreases-loop-head
+decreases-loop-head l = l.n - l.head

@@ -1,0 +1,13 @@
+use borrow.Author.Rules.{rules}
+use Prim.Native.Nat.{◌≤◌, ◌-◌}
+use native.Mathlib.Omega.{arith}
+use mir.Facts.{Fits-widen}
+use lib.ListN.{length}
+use Rattle.centroid.proofs.Entering.{Entering, entering_start, asks_few, list_asks, list_more, list_done}
+use Rattle.centroid.proofs.search.enter_list.Given as goal
+
+abbrev pub invariant-loop-k : goal.invariant-loop-k
+invariant-loop-k l = Entering l.offsets l.targets l.n l.i l.initial.work l.work l.k l.count × (l.k ≤ length l.list)
+
+abbrev pub decreases-loop-k : goal.decreases-loop-k
+decreases-loop-k l = length l.list - l.k

@@ -1,0 +1,12 @@
+use Prim.Native.Nat.{◌-◌}
+use native.Mathlib.Omega.{arith}
+use mathlib.Core.Path.{◌∙◌}
+use lib.ListN.{length-set}
+use Rattle.centroid.proofs.Walking.{Walking, started_only, walking_start, walking_few, walking_asks, walking_more, walking-done}
+use Rattle.centroid.proofs.search.walk_component.Given as goal
+
+abbrev pub invariant-loop-i : goal.invariant-loop-i
+invariant-loop-i l = Walking l.offsets l.targets l.n l.start l.initial.work l.work l.i l.count
+
+abbrev pub decreases-loop-i : goal.decreases-loop-i
+decreases-loop-i l = l.n - l.i
