@@ -58,12 +58,11 @@ module _ (n : ℕ) (t : Six) (y : ℕ) where
   pub left_over : counted? n (at t.id y) (at t.size y) ≡ true → Is (n - at t.size y) ≡ without_child n t (Is y)
   left_over e = rw e
 
--- an answer of the lookup that is no vertex is handed on: its tag is one of the other two
-pub left_refused : (n : ℕ) (t : Six) (a : Answer) → OneOf (1 ∷ 2 ∷ []) (tag_of the_type a) → a ≡ without_child n t a
-left_refused n t (Is x) (inl e) = absurd (let z : ◌≡◌ {A = ℕ} 0 1 = e in omega arith)
-left_refused n t (Is x) (inr e) = absurd (let z : ◌≡◌ {A = ℕ} 0 2 = e in omega arith)
-left_refused n t TooFar o = refl
-left_refused n t (Refused r) o = refl
+-- an answer of the lookup that is no vertex is handed on
+pub left_refused : (n : ℕ) (t : Six) (a : Answer) → ((x : ℕ) → a ≡ Is x → ⊥) → a ≡ without_child n t a
+left_refused n t (Is x) f = absurd (f x refl)
+left_refused n t TooFar f = refl
+left_refused n t (Refused r) f = refl
 
 -- The re-rooted size, by the places a of the root and b of the vertex.
 

@@ -1,0 +1,15 @@
+use Prim.Native.Nat.{ℕ, ◌+◌, ◌*◌, ◌-◌, ◌≤◌}
+use native.Mathlib.Omega.{arith}
+use mathlib.Core.Path.{◌≡◌, refl, ap, ◌∙◌}
+use mir.Facts.{Fits-widen}
+use Rattle.sums.specs.Sum.{at, sum}
+use Rattle.answers.proofs.Bounds.{vertices_small, chains_small}
+use Rattle.components.proofs.Held.{sum_next}
+use Rattle.centroid.specs.Regions.{level_of_at}
+use Rattle.components.proofs.levels.total_room.Given as goal
+
+abbrev pub invariant-loop-v : goal.invariant-loop-v
+invariant-loop-v l = (l.v ≤ l.n) × (l.total ≡ sum l.v (λ i. at l.work (level_of_at l.n i) + 1)) × (l.total ≤ 32 * l.v)
+
+abbrev pub decreases-loop-v : goal.decreases-loop-v
+decreases-loop-v l = l.n - l.v
