@@ -1,0 +1,20 @@
+use mathlib.Core.Logic.{⊎_elim, inl, inr}
+use Rattle.treefile.specs.Report.{number_text}
+use mathlib.Core.Path.{sym, ap, ◌∙◌}
+use Rattle.treefile.proofs.Writing.{puts_as, room_as}
+use native.Mathlib.Omega.{arith}
+use Rattle.querylines.proofs.Texts.{number_text_lem, path_text}
+use borrow.Author.Rules.{rules}
+use Rattle.querylines.proofs.answer.answer_query.Goals as goal
+
+pub put_answer-requires : goal.put_answer-requires
+put_answer-requires c = room_as (sym (ap number_text c.number_answer-answer.ensures ∙ number_text_lem _ _ _ _ _ (omega arith) (omega arith))) c.requires.room
+
+pub put_path-requires : goal.put_path-requires
+put_path-requires c = record { short = c.requires.short; room = room_as (sym (path_text _ _ _ _ _ (⊎_elim (λ w. inl (omega arith)) (λ w. inr (omega arith)) c.in_default.branch))) c.requires.room }
+
+pub returns-in-1-to-5 : goal.returns-in-1-to-5
+returns-in-1-to-5 c = puts_as (ap number_text c.number_answer-answer.ensures ∙ number_text_lem _ _ _ _ _ (omega arith) (omega arith)) c.put_answer.ensures
+
+pub returns-in_default : goal.returns-in_default
+returns-in_default c = puts_as (path_text _ _ _ _ _ (⊎_elim (λ w. inl (omega arith)) (λ w. inr (omega arith)) c.in_default.branch)) c.put_path.ensures

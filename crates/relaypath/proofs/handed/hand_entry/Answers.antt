@@ -1,0 +1,7 @@
+-- `handed::hand_entry` meets its contract: the entry is a 32-bit number.
+use borrow.Author.Rules.{rules}
+use native.Mathlib.Omega.{arith}
+use Rattle.relaypath.proofs.handed.hand_entry.Goals as goal
+
+pub overflow_cast-answer : goal.overflow_cast-answer
+overflow_cast-answer c = omega (arith, c.requires _ c.in-Is.is)
