@@ -1,5 +1,3 @@
 pub mod Copying
 pub mod Planning
-pub mod Handed
-pub mod Handing
 pub mod Reading
