@@ -1,6 +1,6 @@
 -- What the contracts of inner functions cite: no reader of a query's meaning needs it. A function is lent the tables that it reads, and its answer
 -- is the same whatever the others hold: o and s stand for `order` and `size`.
-use Rattle.std.specs.Prelude.{ℕ, ◌-◌, ◌≡◌, List, [], ◌∷◌, leb, length}
+use Rattle.std.specs.Prelude.{ℕ, ◌≡◌, List, [], ◌∷◌, leb, length}
 use Rattle.tables.specs.Tables.{six}
 use Rattle.answers.specs.Choice.{pick}
 use Rattle.climb.specs.Climbing.{climb_to, ancestor_of}

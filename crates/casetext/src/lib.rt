@@ -1,11 +1,14 @@
 // Reading cases that stand as text, one to a line. A position is an index into the text, and a reading hands back the position behind what it read.
 // NOWHERE is a position at which nothing stands: what is read from there on is nowhere too, so a line is tested once, at its end.
+#![tactic(auto)]
+
 pub mod forms;
 pub mod numbers;
 
 ghost use Rattle.std.specs.Prelude.{◌-◌, ◌≤◌, length};
 
-use libc::STDOUT_FILENO;
+use std::io;
+use std::io::Print;
 
 pub const NOWHERE: usize = 18_446_744_073_709_551_615;
 
@@ -49,27 +52,27 @@ pub fn remark(text: &[u8], at: usize) -> bool {
 }
 
 // Prints the text from this position to the line's end.
-pub fn print_line(text: &[u8], at: usize) {
+pub fn print_line(rt: &impl Print, text: &[u8], at: usize) -> io::Result<()> {
     if text.len() < at {
-        return;
+        return Ok(());
     }
     let end = find(text, at, b'\n');
-    io::write_all(STDOUT_FILENO, &text[at..end]);
+    rt.write_all(&text[at..end])
 }
 
 // Prints the same and a colon, before the answer.
-pub fn print_head(text: &[u8], at: usize) {
-    print_line(text, at);
-    io::write_all(STDOUT_FILENO, b": ");
+pub fn print_head(rt: &impl Print, text: &[u8], at: usize) -> io::Result<()> {
+    print_line(rt, text, at)?;
+    rt.write_all(b": ")
 }
 
 // Ends the line that is printed.
-pub fn print_end() {
-    io::write_all(STDOUT_FILENO, b"\n");
+pub fn print_end(rt: &impl Print) -> io::Result<()> {
+    rt.write_all(b"\n")
 }
 
 // Prints a line that does not follow the grammar, and that it does not.
-pub fn print_malformed(text: &[u8], at: usize) {
-    print_line(text, at);
-    io::write_all(STDOUT_FILENO, b": malformed\n");
+pub fn print_malformed(rt: &impl Print, text: &[u8], at: usize) -> io::Result<()> {
+    print_line(rt, text, at)?;
+    rt.write_all(b": malformed\n")
 }

@@ -1,12 +1,12 @@
 -- Paths that avoid a vertex, and the parts that a component falls into when a vertex is removed.
 use Prim.Native.Nat.{ℕ}
-use mathlib.Core.Path.{◌≡◌, refl, sym, ap, subst}
-use mathlib.Core.Bool.{Bool, true, false, not, true≢false}
+use mathlib.Core.Path.{◌≡◌, refl, ap, subst}
+use mathlib.Core.Bool.{Bool, true, false, not}
 use mathlib.Core.List.{List, ◌∷◌}
 use lib.Dec.{eqb}
 use Rattle.paths.specs.Walk.{In}
 use Rattle.paths.specs.Route.{ptail, On}
-use Rattle.answers.specs.Choice.{both, all?}
+use Rattle.answers.specs.Choice.{all?}
 use Rattle.centroid.specs.Components.{in_part}
 use Rattle.answers.proofs.Choices.{both_true, all_in, in_all, not_passed}
 use Rattle.centroid.proofs.Tests.{other_true, other_ne, passed_not_failed}

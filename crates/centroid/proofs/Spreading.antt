@@ -1,16 +1,16 @@
 -- How the visit of a component goes on: at its start, past a removed neighbour, past the vertex it was met from, past a new one, and to the next
 -- position. In a tree no vertex is met twice.
-use Prim.Native.Nat.{ℕ, zero, suc, ◌+◌, ◌≤◌, ◌<◌}
+use Prim.Native.Nat.{ℕ, ◌+◌, ◌≤◌, ◌<◌}
 use native.Mathlib.Omega.{arith}
-use mathlib.Core.Path.{◌≡◌, refl, sym, ap, ◌∙◌, subst}
+use mathlib.Core.Path.{◌≡◌, sym, ap, ◌∙◌, subst}
 use mathlib.Core.Logic.{◌≢◌, inl, inr, ⊎_elim}
 use mathlib.Core.Bool.{Bool, true, false}
-use mathlib.Core.List.{List, [], ◌∷◌}
+use mathlib.Core.List.{List, ◌∷◌}
 use lib.ListN.{length}
 use Rattle.sums.specs.Sum.{at}
 use Rattle.sums.proofs.Sums.{equal_or_not, up_to}
 use Rattle.sums.proofs.Pigeon.{Injective, injective_le}
-use Rattle.paths.specs.Walk.{In, NoDup, Stands}
+use Rattle.paths.specs.Walk.{NoDup, Stands}
 use Rattle.paths.specs.Rooted.{Spans}
 use Rattle.paths.specs.Route.{ptail, On}
 use Rattle.paths.proofs.Listed.{at_in, nodup_at}

@@ -1,5 +1,6 @@
 // Centroid decomposition and component lists.
 #![tactic(auto)]
+
 pub mod decompose;
 pub mod regions;
 pub mod search;

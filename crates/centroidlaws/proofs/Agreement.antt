@@ -8,7 +8,6 @@ use mathlib.Core.Logic.{◌⊎◌, inl, inr, ⊎_elim}
 use mathlib.Core.Bool.{Bool}
 use mathlib.Core.List.{List}
 use lib.Seq.{ext_get_or}
-use Rattle.sums.specs.Sum.{at}
 use Rattle.sums.proofs.Sums.{up_to}
 use Rattle.paths.specs.Walk.{Stands}
 use Rattle.paths.specs.Rooted.{Spans}

@@ -1,13 +1,12 @@
 -- What holds by the paths of one rooting holds by every way: component lists may be shown by one.
 use Prim.Native.Nat.{ℕ, suc, ◌+◌, ◌<◌}
 use mathlib.Core.Path.{◌≡◌, refl, ap, ap₂, ◌∙◌}
-use mathlib.Core.Logic.{inl, inr}
 use mathlib.Core.Bool.{Bool}
 use mathlib.Core.List.{List, [], ◌∷◌, ◌++◌, map}
 use lib.Dec.{eqb}
 use lib.ListN.{length}
 use Rattle.sums.specs.Sum.{at}
-use Rattle.paths.specs.Walk.{In, Below}
+use Rattle.paths.specs.Walk.{Below}
 use Rattle.paths.specs.Route.{ptail}
 use Rattle.paths.proofs.Listed.{in-below, map_same}
 use Rattle.paths.proofs.Kept.{keep_ext}

@@ -27,7 +27,7 @@ use Rattle.centroidlaws.proofs.Halving.{level_bound}
 use Rattle.centroidlaws.proofs.Passed.{Passed, sound_rooted}
 use Rattle.centroidlaws.proofs.SameLists.{lists_total}
 use Rattle.centroidlaws.proofs.Determined.{fitting-total}
-use Rattle.components.specs.Levels.{levels_in, total_in, FindAsks, LevelsFound, TotalAsks}
+use Rattle.components.specs.Levels.{total_in, FindAsks, LevelsFound, TotalAsks}
 use Rattle.components.specs.Listing.{AllAsks, AllListed, GraphListed}
 use Rattle.components.proofs.Held.{levels_at, total_levels}
 

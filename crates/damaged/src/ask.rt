@@ -4,32 +4,30 @@ use answers::answer::{Answer, Interval};
 use between::distance::distance;
 use between::jump::jump;
 use between::lca::lca;
-use libc::STDOUT_FILENO;
 use queries::ancestors::kth_ancestor;
 use queries::reads::{depth, root, vertex_id};
 use sizes::subtrees::{subtree_range, subtree_size};
-
-// Prints a space and a number.
-fn print_value(x: usize) {
-    io::write_all(STDOUT_FILENO, b" ");
-    io::print_decimal(STDOUT_FILENO, x as u64);
-}
+use std::io;
+use std::io::Print;
 
 // Prints the code of an answer, and its number where it has one.
-fn print(answer: Answer) {
-    io::print_decimal(STDOUT_FILENO, answer.code() as u64);
+fn print(rt: &impl Print, answer: Answer) -> io::Result<()> {
+    let code = answer.code();
+    print!(rt; "{code}")?;
     if let Answer::Is(x) = answer {
-        print_value(x);
+        return print!(rt; " {x}");
     }
+    Ok(())
 }
 
 // Prints the code of an interval, and its ends where it has them.
-fn print_interval(interval: Interval) {
-    io::print_decimal(STDOUT_FILENO, interval.code() as u64);
+fn print_interval(rt: &impl Print, interval: Interval) -> io::Result<()> {
+    let code = interval.code();
+    print!(rt; "{code}")?;
     if let Interval::Between(start, end) = interval {
-        print_value(start);
-        print_value(end);
+        return print!(rt; " {start} {end}");
     }
+    Ok(())
 }
 
 // The answer to any query but that for a range, with as many of the numbers as it has.
@@ -59,6 +57,7 @@ fn answer(
 
 // Asks and prints the answer.
 fn ask_lent(
+    rt: &impl Print,
     parent: &[u32],
     depths: &[u32],
     head: &[u32],
@@ -69,12 +68,14 @@ fn ask_lent(
     u: usize,
     v: usize,
     w: usize,
-) {
+) -> io::Result<()> {
     if kind == 1 {
-        print_interval(subtree_range(parent, depths, head, id, order, size, u));
-        return;
+        return print_interval(rt, subtree_range(parent, depths, head, id, order, size, u));
     }
-    print(answer(parent, depths, head, id, order, size, kind, u, v, w));
+    print(
+        rt,
+        answer(parent, depths, head, id, order, size, kind, u, v, w),
+    )
 }
 
 // The n entries of the list from this place on; none where the list has not so many.
@@ -89,11 +90,12 @@ fn part(tables: &[u32], from: usize, n: usize) -> &[u32] {
 }
 
 // Asks the six tables of n vertices that stand one after the other in the list.
-pub fn ask(n: usize, tables: &[u32], kind: u32, u: usize, v: usize, w: usize) {
+pub fn ask(rt: &impl Print, n: usize, tables: &[u32], kind: u32, u: usize, v: usize, w: usize) -> io::Result<()> {
     if 8 < n {
-        return;
+        return Ok(());
     }
     ask_lent(
+        rt,
         part(tables, 0, n),
         part(tables, n, n),
         part(tables, 2 * n, n),
@@ -104,5 +106,5 @@ pub fn ask(n: usize, tables: &[u32], kind: u32, u: usize, v: usize, w: usize) {
         u,
         v,
         w,
-    );
+    )
 }

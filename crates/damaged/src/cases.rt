@@ -3,6 +3,8 @@ use crate::ask::ask;
 use casetext::forms::{again, form};
 use casetext::numbers::{numbers, words};
 use casetext::{NOWHERE, ends, find, print_end, print_head, print_malformed};
+use std::io;
+use std::io::Print;
 use std::num::wrapping_add_usize;
 
 // The most vertices that a case has, and the entries of six tables.
@@ -102,55 +104,55 @@ fn read_tables(text: &[u8], at: usize, tables: &mut [u32]) -> usize {
 }
 
 // Asks the query of this line that stands at this position, up to the line's end.
-fn run_query(text: &[u8], line: usize, at: usize, n: usize, tables: &[u32]) {
+fn run_query(rt: &impl Print, text: &[u8], line: usize, at: usize, n: usize, tables: &[u32]) -> io::Result<()> {
     let found = form(
         text,
         at,
         b"root\n|range #\n|depth #\n|id #\n|distance # #\n|ancestor # #\n|size # #\n|lca # # #\n|jump # # #\n",
     );
     if found.next == NOWHERE {
-        print_malformed(text, line);
-        return;
+        return print_malformed(rt, text, line);
     }
-    print_head(text, line);
+    print_head(rt, text, line)?;
     ask(
+        rt,
         n,
         tables,
         found.which,
         found.first as usize,
         found.second as usize,
         found.third as usize,
-    );
-    print_end();
+    )?;
+    print_end(rt)
 }
 
 // Runs the case at this position on the tables given above it.
-fn run_case(text: &[u8], tables_at: usize, at: usize) {
+fn run_case(rt: &impl Print, text: &[u8], tables_at: usize, at: usize) -> io::Result<()> {
     let mut tables = [0u32; ENTRIES];
     let n = read_tables(text, tables_at, &mut tables);
     if n == NOWHERE {
-        print_malformed(text, at);
-        return;
+        return print_malformed(rt, text, at);
     }
     let start = unnamed(text, tables_at, at);
     let next = changes(text, start, n, &mut tables);
-    run_query(text, at, next, n, &tables);
+    run_query(rt, text, at, next, n, &tables)
 }
 
 // Reports the tables at this position where they are malformed.
-fn try_tables(text: &[u8], at: usize) {
+fn try_tables(rt: &impl Print, text: &[u8], at: usize) -> io::Result<()> {
     let mut tables = [0u32; ENTRIES];
     if read_tables(text, at, &mut tables) == NOWHERE {
-        print_malformed(text, at);
+        return print_malformed(rt, text, at);
     }
+    Ok(())
 }
 
 // Runs a line, and returns where the tables stand that are given last.
-pub fn run_line(text: &[u8], tables_at: usize, at: usize) -> usize {
+pub fn run_line(rt: &impl Print, text: &[u8], tables_at: usize, at: usize) -> io::Result<usize> {
     if name_at(text, at) == NOWHERE {
-        run_case(text, tables_at, at);
-        return tables_at;
+        run_case(rt, text, tables_at, at)?;
+        return Ok(tables_at);
     }
-    try_tables(text, at);
-    at
+    try_tables(rt, text, at)?;
+    Ok(at)
 }

@@ -10,26 +10,33 @@
 //     a query    distance U V | lca R U V | ancestor V K | jump U V K | size R V | range V | root | depth V | id V
 //     NUMBERS    each behind a space, or a comma and a space; n of each table, and n at most 8
 //     a number   up to nine digits, or `most` or `none`, which are 4,294,967,295
+#![tactic(auto)]
 mod ask;
 mod cases;
 
 use casetext::{NOWHERE, find, remark};
 use sample::read_sample;
+use std::io;
+use std::io::Print;
+
+// One byte more than the longest text that is read.
+const MAX_TEXT: usize = 65_536;
 
 // Runs each line with the tables above it.
-fn run(text: &[u8]) {
+fn run(rt: &impl Print, text: &[u8]) -> io::Result<()> {
     let mut tables = NOWHERE;
     let mut at: usize = 0;
     while at < text.len() {
         if !remark(text, at) {
-            tables = cases::run_line(text, tables, at);
+            tables = cases::run_line(rt, text, tables, at)?;
         }
         at = find(text, at, b'\n') + 1;
     }
+    Ok(())
 }
 
-fn main() {
-    let mut buffer = io::large_buffer();
-    let count = read_sample(&mut buffer);
-    run(&buffer[..count]);
+fn main(rt: HostRuntime) -> io::Result<()> {
+    let mut buffer = [0u8; MAX_TEXT];
+    let count = read_sample(&mut rt.stdin(), &mut buffer)?;
+    run(&rt, &buffer[..count])
 }

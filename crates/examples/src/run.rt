@@ -3,7 +3,8 @@ use crate::shapes::{fill, graph_at};
 use answers::codes::{BAD_SIZE, NO_ROOM};
 use casetext::forms::form;
 use casetext::{NOWHERE, print_head, print_malformed, remark};
-use libc::STDOUT_FILENO;
+use std::io;
+use std::io::Print;
 use validate::validate_tree;
 
 // What stands in each entry of work before a call.
@@ -47,26 +48,31 @@ fn cleared_by(code: u32, points: usize, entries: usize) -> usize {
 }
 
 // Prints the line's rest from its name on, the code and whether work was left right.
-fn print(text: &[u8], name: usize, code: u32, right: bool) {
-    print_head(text, name);
-    io::print_decimal(STDOUT_FILENO, code as u64);
-    if right {
-        io::write_all(STDOUT_FILENO, b", work ok\n");
-    } else {
-        io::write_all(STDOUT_FILENO, b", work WRONG\n");
-    }
+fn print(rt: &impl Print, text: &[u8], name: usize, code: u32, right: bool) -> io::Result<()> {
+    print_head(rt, text, name)?;
+    let left = if right { "ok" } else { "WRONG" };
+    println!(rt; "{code}, work {left}")
 }
 
 // Runs the case of this name on all that is lent.
-fn run(text: &[u8], name: usize, offsets: &[u32], targets: &[u32], root: usize, work: &mut [u32]) {
+fn run(
+    rt: &impl Print,
+    text: &[u8],
+    name: usize,
+    offsets: &[u32],
+    targets: &[u32],
+    root: usize,
+    work: &mut [u32],
+) -> io::Result<()> {
     fill(work, BEFORE);
     let code = validate_tree(offsets, targets, root, work);
     let right = left_right(work, cleared_by(code, offsets.len(), targets.len()));
-    print(text, name, code, right);
+    print(rt, text, name, code, right)
 }
 
 // Runs the case on the first points offsets, entries targets and room entries of work, and returns whether there are so many.
 fn run_part(
+    rt: &impl Print,
     text: &[u8],
     name: usize,
     offsets: &[u32],
@@ -76,41 +82,44 @@ fn run_part(
     root: usize,
     work: &mut [u32],
     room: usize,
-) -> bool {
+) -> io::Result<bool> {
     if offsets.len() < points {
-        return false;
+        return Ok(false);
     }
     if targets.len() < entries {
-        return false;
+        return Ok(false);
     }
     if work.len() < room {
-        return false;
+        return Ok(false);
     }
     run(
+        rt,
         text,
         name,
         &offsets[0..points],
         &targets[0..entries],
         root,
         &mut work[0..room],
-    );
-    true
+    )?;
+    Ok(true)
 }
 
 // Runs the case at this position, and returns whether there is one.
 fn run_case(
+    rt: &impl Print,
     text: &[u8],
     at: usize,
     offsets: &mut [u32],
     targets: &mut [u32],
     work: &mut [u32],
-) -> bool {
+) -> io::Result<bool> {
     let graph = graph_at(text, at, offsets, targets);
     let found = form(text, graph.next, b" root # work #: ");
     if found.next == NOWHERE {
-        return false;
+        return Ok(false);
     }
     run_part(
+        rt,
         text,
         found.next,
         offsets,
@@ -125,16 +134,18 @@ fn run_case(
 
 // Runs a line, where it has a case.
 pub fn run_line(
+    rt: &impl Print,
     text: &[u8],
     at: usize,
     offsets: &mut [u32],
     targets: &mut [u32],
     work: &mut [u32],
-) {
+) -> io::Result<()> {
     if remark(text, at) {
-        return;
+        return Ok(());
     }
-    if !run_case(text, at, offsets, targets, work) {
-        print_malformed(text, at);
+    if run_case(rt, text, at, offsets, targets, work)? {
+        return Ok(());
     }
+    print_malformed(rt, text, at)
 }

@@ -1,5 +1,6 @@
 // Whether the vertices that a visit met have in their lists the vertices from which it met them.
 #![tactic(auto)]
+
 ghost use Rattle.paths.specs.Walk.{In};
 ghost use Rattle.graph.specs.Judgement.{Decides};
 ghost use Rattle.parents.specs.Listed.{ListedAsks, ParentsListed};

@@ -2,6 +2,7 @@
 // together behind it, in list order, so each pass reads memory in order and no list is read again. Work holds regions of n entries; which is which, the
 // constants say.
 #![tactic(auto)]
+
 ghost use Rattle.passes.specs.Passes.{WeighAsks, WeighAnswers, region};
 ghost use Rattle.passes.specs.Inner.{StartAsks, StartAnswers, HeavierAsks, Heavier, HandAsks, HandAnswers};
 

@@ -13,7 +13,7 @@ use Rattle.paths.proofs.Listed.{in-below, from_last}
 use Rattle.paths.proofs.Unique.{path_simple, path_unique}
 use Rattle.tables.specs.Tables.{Six}
 use Rattle.queries.specs.Queries.{distance, kth_ancestor, jump, lca, subtree_size}
-use Rattle.answers.specs.declared.answer.Answer.TheVariants.{Is, TooFar, Refused}
+use Rattle.answers.specs.declared.answer.Answer.TheVariants.{Is, TooFar}
 use Rattle.pathlaws.specs.Given.{Given, OnIn}
 use Rattle.pathlaws.proofs.KthAncestor.{kth_on_path, kth_too_far, depth_path}
 use Rattle.pathlaws.proofs.Jumps.{distance_answer, jump_answer, jump_too_far}

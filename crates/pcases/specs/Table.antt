@@ -2,7 +2,7 @@
 use Rattle.std.specs.Prelude.{ℕ, List, [], ◌∷◌}
 use Rattle.answers.specs.Limits.{no_parent}
 use Rattle.answers.specs.Codes.{not_symmetric}
-use Rattle.answers.specs.declared.answer.Answer.TheVariants.{Is, TooFar, Refused}
+use Rattle.answers.specs.declared.answer.Answer.TheVariants.{Is, TooFar}
 use Rattle.ranges.specs.Ranges.{piece, range}
 use Rattle.ranges.specs.declared.kinds.Direction.{Direction}
 use Rattle.ranges.specs.declared.kinds.Direction.TheVariants.{Forward, Reversed}

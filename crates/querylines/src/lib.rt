@@ -1,4 +1,5 @@
 // The lines of a file's queries: each query answered on the tree's tables, and its line written.
 #![tactic(auto)]
+
 pub mod answer;
 pub mod lines;

@@ -1,5 +1,5 @@
 -- What a list of ranges reads: the numbers of each range in its direction, one range after the other (tender, condition 3).
-use Rattle.std.specs.Prelude.{ℕ, zero, suc, ◌+◌, ◌-◌, ◌*◌, List, [], ◌∷◌, ◌++◌, reverse, ltb}
+use Rattle.std.specs.Prelude.{ℕ, zero, suc, ◌-◌, ◌*◌, List, [], ◌∷◌, ◌++◌, reverse, ltb}
 use Rattle.answers.specs.Choice.{pick}
 use Rattle.ranges.specs.declared.kinds.Direction.{Direction}
 use Rattle.ranges.specs.declared.kinds.Direction.TheVariants.{Forward, Reversed}

@@ -1,5 +1,6 @@
 // The second pass of the build: numbers, heads and depths of the positions, once they are weighed.
 #![tactic(auto)]
+
 ghost use Rattle.ranks.specs.Ranks.{NumberAsks, NumberAnswers};
 ghost use Rattle.ranks.specs.Inner.{PlaceAsks, Placed, OneAsks, Numbers};
 

@@ -1,6 +1,7 @@
 // The library that C and Rust link. Each call stands here under its C name and is one call of the crate that proves it; include/relaypath.h
 // declares them for C. A slice is a pointer and a length there.
 #![tactic(auto)]
+
 pub mod asked;
 pub mod centroids;
 pub mod handed;

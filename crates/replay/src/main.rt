@@ -1,12 +1,18 @@
 // Runs validate_tree on a stored sample of the Rust original's answers, and counts the cases on which the two agree. The sample stands on
 // standard input: 16-bit numbers, the low byte first. The first is the count of cases; each case is n, E, the root, the original's code,
 // n + 1 offsets and E targets.
+#![tactic(auto)]
 ghost use Rattle.std.specs.Prelude.{◌≤◌};
 
+use std::io;
+use std::io::Print;
 use answers::codes::{BAD_SIZE, DISCONNECTED, DONE, HAS_CYCLE};
 use sample::{holds, number, print_count, print_malformed, read_numbers, read_sample};
 use std::num::{wrapping_add_u64, wrapping_add_usize};
 use validate::validate_tree;
+
+// One byte more than the longest sample that is read.
+const MAX_SAMPLE: usize = 65_536;
 
 // The largest case of the sample.
 const MAX_VERTICES: usize = 64;
@@ -113,16 +119,16 @@ fn run_case(bytes: &[u8], at: usize) -> Step {
     }
 }
 
-fn print_counts(cases: u64, counts: Counts) {
-    print_count(b"cases ", cases);
-    print_count(b"trees ", counts.trees);
-    print_count(b"disconnected ", counts.disconnected);
-    print_count(b"with a cycle ", counts.cycles);
-    print_count(b"agree ", counts.agree);
+fn print_counts(rt: &impl Print, cases: u64, counts: Counts) -> io::Result<()> {
+    print_count(rt, b"cases ", cases)?;
+    print_count(rt, b"trees ", counts.trees)?;
+    print_count(rt, b"disconnected ", counts.disconnected)?;
+    print_count(rt, b"with a cycle ", counts.cycles)?;
+    print_count(rt, b"agree ", counts.agree)
 }
 
 // Runs all cases and prints the counts, or that the sample is malformed: it ends early, has bytes left or has a case that is too large.
-fn replay(bytes: &[u8]) {
+fn replay(rt: &impl Print, bytes: &[u8]) -> io::Result<()> {
     let cases = number(bytes, 0);
     let mut counts = Counts::none();
     let mut at: usize = 2;
@@ -135,21 +141,19 @@ fn replay(bytes: &[u8]) {
                 at = next;
             }
             Step::Malformed => {
-                print_malformed();
-                return;
+                return print_malformed(rt);
             }
         }
         done += 1;
     }
     if at != bytes.len() {
-        print_malformed();
-        return;
+        return print_malformed(rt);
     }
-    print_counts(cases as u64, counts);
+    print_counts(rt, cases as u64, counts)
 }
 
-fn main() {
-    let mut buffer = io::large_buffer();
-    let count = read_sample(&mut buffer);
-    replay(&buffer[..count]);
+fn main(rt: HostRuntime) -> io::Result<()> {
+    let mut buffer = [0u8; MAX_SAMPLE];
+    let count = read_sample(&mut rt.stdin(), &mut buffer)?;
+    replay(&rt, &buffer[..count])
 }

@@ -1,9 +1,18 @@
 // Runs `report` on a stored sample of tree files, and counts those for which it writes the report that the Rust original's answers give. The
 // sample stands on standard input: each case is the length of the file in bytes, the file, the length of the report in bytes and the report; one
 // byte more follows a text of odd length. Files of its own come first: 01's examples without a mark, as far as they fit into a file.
+#![tactic(auto)]
+use std::io;
+use std::io::Print;
 use sample::{holds, number, print_count, print_malformed, read_sample};
 use std::num::{wrapping_add_u64, wrapping_add_usize};
 use treereport::report::report;
+
+// One byte more than the longest sample that is read.
+const MAX_SAMPLE: usize = 65_536;
+
+// What a report is given, which is more than the longest report takes.
+const MAX_REPORT: usize = 65_536;
 
 // What stands at one place of the sample.
 #[derive(Drop)]
@@ -104,7 +113,7 @@ fn same(a: &[u8], b: &[u8]) -> bool {
 
 // Whether the report of this file is the stored one.
 fn agrees(file: &[u8], stored: &[u8]) -> bool {
-    let mut out = io::large_buffer();
+    let mut out = [0u8; MAX_REPORT];
     let length = report(file, &mut out);
     same(&out[..length], stored)
 }
@@ -153,15 +162,15 @@ fn own_files() -> Counts {
     counts.with(false, agrees(&two_lone, b"tree 7\n"))
 }
 
-fn print_counts(counts: Counts) {
-    print_count(b"cases ", counts.cases);
-    print_count(b"trees ", counts.trees);
-    print_count(b"refused ", counts.refused);
-    print_count(b"agree ", counts.agree);
+fn print_counts(rt: &impl Print, counts: Counts) -> io::Result<()> {
+    print_count(rt, b"cases ", counts.cases)?;
+    print_count(rt, b"trees ", counts.trees)?;
+    print_count(rt, b"refused ", counts.refused)?;
+    print_count(rt, b"agree ", counts.agree)
 }
 
 // Runs all cases and prints the counts, or that the sample is malformed.
-fn replay(bytes: &[u8]) {
+fn replay(rt: &impl Print, bytes: &[u8]) -> io::Result<()> {
     let cases = number(bytes, 0);
     let mut counts = own_files();
     let mut at: usize = 2;
@@ -174,21 +183,19 @@ fn replay(bytes: &[u8]) {
                 at = next;
             }
             Step::Malformed => {
-                print_malformed();
-                return;
+                return print_malformed(rt);
             }
         }
         done += 1;
     }
     if at != bytes.len() {
-        print_malformed();
-        return;
+        return print_malformed(rt);
     }
-    print_counts(counts);
+    print_counts(rt, counts)
 }
 
-fn main() {
-    let mut buffer = io::large_buffer();
-    let count = read_sample(&mut buffer);
-    replay(&buffer[..count]);
+fn main(rt: HostRuntime) -> io::Result<()> {
+    let mut buffer = [0u8; MAX_SAMPLE];
+    let count = read_sample(&mut rt.stdin(), &mut buffer)?;
+    replay(&rt, &buffer[..count])
 }

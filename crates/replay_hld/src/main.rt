@@ -1,13 +1,19 @@
 // Runs try_hld on a stored sample of the Rust original's tables, and counts the cases on which all six tables agree. The sample stands on
 // standard input: each case is n, the root, n + 1 offsets, 2(n - 1) targets, and n entries of each of the tables parent, depth, head, id, order
 // and size, where 65535 stands for no parent.
+#![tactic(auto)]
 ghost use Rattle.std.specs.Prelude.{◌≤◌};
 
+use std::io;
+use std::io::Print;
 use answers::codes::DONE;
 use answers::limits::NO_PARENT;
 use hld::build::try_hld;
 use sample::{holds, number, print_count, print_malformed, read_numbers, read_sample};
 use std::num::{wrapping_add_u64, wrapping_add_usize};
+
+// One byte more than the longest sample that is read.
+const MAX_SAMPLE: usize = 65_536;
 
 // The largest case of the sample.
 const MAX_VERTICES: usize = 40;
@@ -202,14 +208,14 @@ fn run_case(bytes: &[u8], at: usize) -> Step {
     }
 }
 
-fn print_counts(cases: u64, counts: Counts) {
-    print_count(b"cases ", cases);
-    print_count(b"vertices ", counts.vertices);
-    print_count(b"agree ", counts.agree);
+fn print_counts(rt: &impl Print, cases: u64, counts: Counts) -> io::Result<()> {
+    print_count(rt, b"cases ", cases)?;
+    print_count(rt, b"vertices ", counts.vertices)?;
+    print_count(rt, b"agree ", counts.agree)
 }
 
 // Runs all cases and prints the counts, or that the sample is malformed.
-fn replay(bytes: &[u8]) {
+fn replay(rt: &impl Print, bytes: &[u8]) -> io::Result<()> {
     let cases = number(bytes, 0);
     let mut counts = Counts::none();
     let mut at: usize = 2;
@@ -222,21 +228,19 @@ fn replay(bytes: &[u8]) {
                 at = next;
             }
             Step::Malformed => {
-                print_malformed();
-                return;
+                return print_malformed(rt);
             }
         }
         done += 1;
     }
     if at != bytes.len() {
-        print_malformed();
-        return;
+        return print_malformed(rt);
     }
-    print_counts(cases as u64, counts);
+    print_counts(rt, cases as u64, counts)
 }
 
-fn main() {
-    let mut buffer = io::large_buffer();
-    let count = read_sample(&mut buffer);
-    replay(&buffer[..count]);
+fn main(rt: HostRuntime) -> io::Result<()> {
+    let mut buffer = [0u8; MAX_SAMPLE];
+    let count = read_sample(&mut rt.stdin(), &mut buffer)?;
+    replay(&rt, &buffer[..count])
 }

@@ -1,8 +1,10 @@
 // What the programs that replay a stored sample share: the sample is 16-bit numbers, the low byte first, and the first is the count of cases.
-ghost use Rattle.std.specs.Prelude.{◌<◌};
-ghost use Rattle.io.specs.Counts.{IsPrefixLen};
+#![tactic(auto)]
 
-use libc::{STDIN_FILENO, STDOUT_FILENO};
+ghost use Rattle.std.specs.Prelude.{◌≡◌, ◌<◌, ◌≤◌, length, IfOk, OnErr};
+
+use std::io;
+use std::io::{Print, Read};
 use std::num::wrapping_add_usize;
 
 fn wide(x: u8) -> u32
@@ -43,26 +45,42 @@ pub fn read_numbers(bytes: &[u8], at: usize, out: &mut [u32]) {
     }
 }
 
-// Reads the sample from standard input to the front of the buffer and returns its length. Where the buffer is full there may be more, and the length
-// is 0: no sample is so short, so it counts as malformed.
-pub fn read_sample(buffer: &mut [u8]) -> usize
-    ensures { IsPrefixLen result buffer.new }
+// Reads to the front of the buffer, until it is full or the input ends, and returns how many bytes.
+fn read_full<R: Read>(reader: &mut R, buffer: &mut [u8]) -> io::Result<usize>
+    ensures ok { IfOk result (λ count. count ≤ length buffer.new) }
+    ensures err { OnErr result (length buffer.new ≡ length buffer.old) }
 {
-    let count = io::read_full(STDIN_FILENO, buffer);
-    if count == buffer.len() {
-        return 0;
+    let mut count: usize = 0;
+    while count < buffer.len() {
+        let more = reader.read(&mut buffer[count..])?;
+        if more == 0 {
+            return Ok(count);
+        }
+        count += more;
     }
-    count
+    Ok(count)
+}
+
+// Reads the sample to the front of the buffer and returns its length. Where the buffer is full there may be more, and the length is 0: no sample is
+// so short, so it counts as malformed.
+pub fn read_sample<R: Read>(reader: &mut R, buffer: &mut [u8]) -> io::Result<usize>
+    ensures ok { IfOk result (λ count. count ≤ length buffer.new) }
+    ensures err { OnErr result (length buffer.new ≡ length buffer.old) }
+{
+    let count = read_full(reader, buffer)?;
+    if count == buffer.len() {
+        return Ok(0);
+    }
+    Ok(count)
 }
 
 // Prints a line with a count.
-pub fn print_count(name: &[u8], count: u64) {
-    io::write_all(STDOUT_FILENO, name);
-    io::print_decimal(STDOUT_FILENO, count);
-    io::write_all(STDOUT_FILENO, b"\n");
+pub fn print_count(rt: &impl Print, name: &[u8], count: u64) -> io::Result<()> {
+    rt.write_all(name)?;
+    println!(rt; "{count}")
 }
 
 // Prints that the sample ends early, has bytes left or has a case that is too large.
-pub fn print_malformed() {
-    io::write_all(STDOUT_FILENO, b"the sample is malformed\n");
+pub fn print_malformed(rt: &impl Print) -> io::Result<()> {
+    println!(rt; "the sample is malformed")
 }

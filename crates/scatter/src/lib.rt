@@ -1,5 +1,6 @@
 // The last pass of the build: from positions of the visit to tables by vertex.
 #![tactic(auto)]
+
 ghost use Rattle.std.specs.Prelude.{◌<◌, ◌≡◌};
 ghost use Rattle.tables.specs.Tables.{six};
 ghost use Rattle.scatter.specs.Scatter.{Parented, parent_at, scattered, ScatterAsks, Filled};

@@ -1,12 +1,7 @@
 -- Laws of subtrees: the tests of a size, and what the queries on sizes answer by how their tests end.
 use Prim.Native.Nat.{ℕ, ◌+◌, ◌-◌, ◌≤◌, ◌<◌}
-use native.Mathlib.Omega.{arith}
-use mathlib.Core.Path.{◌≡◌, refl, sym, ap, ◌∙◌, subst}
-use mathlib.Core.Logic.{inl, inr}
+use mathlib.Core.Path.{◌≡◌, refl, ap, ◌∙◌, subst}
 use mathlib.Core.Bool.{Bool, true, false}
-use mathlib.Core.List.{[], ◌∷◌}
-use types.Run.{OneOf}
-use denote.Enum.Declared.{tag_of}
 use lib.Dec.{eqb, leb, ltb}
 use borrow.Author.Tests.{le-leb, lt-leb, lt-ltb, le-ltb, eq-eqb, ne_eqb, leb-true}
 use Rattle.sums.specs.Sum.{at}
@@ -21,7 +16,6 @@ use Rattle.answers.specs.declared.answer.Answer.{Answer}
 use Rattle.answers.specs.declared.answer.Answer.TheVariants.{Is, TooFar, Refused}
 use Rattle.answers.specs.declared.answer.Interval.{Interval}
 use Rattle.answers.specs.declared.answer.Interval.TheVariants.{Between, Refused as NoInterval}
-use Rattle.answers.specs.contracts.answer.Answer.{the_type}
 use Rattle.answers.proofs.Choices.{both_true}
 use Rattle.climb.proofs.Soundness.{stood_place, stood_vertex, stood_sound, unstood}
 

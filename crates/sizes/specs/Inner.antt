@@ -1,6 +1,6 @@
 -- What the contracts of inner functions cite: no reader of a query's meaning needs it. A function is lent the tables that it reads, and its answer
 -- is the same whatever the others hold: o and s stand for `order` and `size`.
-use Rattle.std.specs.Prelude.{ℕ, ◌+◌, ◌-◌, ◌<◌, ◌≡◌, Bool, List, leb, length}
+use Rattle.std.specs.Prelude.{ℕ, ◌+◌, ◌<◌, ◌≡◌, Bool, List, leb, length}
 use Rattle.tables.specs.Tables.{six}
 use Rattle.answers.specs.Choice.{both}
 use Rattle.climb.specs.Sound.{stand_on, On}

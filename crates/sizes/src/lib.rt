@@ -1,3 +1,4 @@
 // Queries on subtrees: their numbers and sizes.
 #![tactic(auto)]
+
 pub mod subtrees;

@@ -2,6 +2,7 @@
 // round twice: turned once they hold, for each x, the vertices u in whose lists x stands, in ascending order; turned again they must
 // give the same lists.
 #![tactic(auto)]
+
 ghost use Rattle.symmetry.specs.Symmetry.{SymmetryAsks, SymmetryAnswers};
 ghost use Rattle.symmetry.specs.Inner.{StartAsks, StartAnswers, TurnAsks, TurnAnswers, BackAsks, BackAnswers};
 

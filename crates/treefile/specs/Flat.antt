@@ -1,5 +1,5 @@
 -- What a writer reads of a lent flat list, and the parts of the report that it writes at once.
-use Rattle.std.specs.Prelude.{ℕ, zero, suc, ◌+◌, ◌*◌, ◌^◌, ◌≤◌, ◌<◌, ◌≡◌, List, [], ◌∷◌, ◌++◌, length}
+use Rattle.std.specs.Prelude.{ℕ, ◌*◌, ◌^◌, ◌≤◌, ◌<◌, ◌≡◌, List, [], ◌∷◌, ◌++◌, length}
 use Rattle.tables.specs.Tables.{Six}
 use Rattle.ranges.specs.Flat.{stride, ranges_in}
 use Rattle.ranges.specs.Calls.{Answered, refused, listed, ranges_of}

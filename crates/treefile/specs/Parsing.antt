@@ -1,5 +1,5 @@
 -- What `parse` answers and leaves in the lent buffers.
-use Rattle.std.specs.Prelude.{ℕ, ◌*◌, ◌≤◌, ◌≡◌, true, false, List, [], ◌∷◌, ◌++◌, length, drop}
+use Rattle.std.specs.Prelude.{ℕ, ◌*◌, ◌≤◌, ◌≡◌, true, false, List, [], ◌∷◌, length}
 use Rattle.paths.specs.Lists.{front}
 use Rattle.treefile.specs.declared.judge.Shape.{Shape}
 use Rattle.treefile.specs.File.{Query, Parsed, bad_file, file, parse_as, max_offsets, max_file_targets, max_queries}

@@ -1,5 +1,6 @@
 // The input and the output of the program `treepaths`, as values: what a well-formed file is and means, and the bytes of a report.
 #![tactic(auto)]
+
 pub mod judge;
 pub mod lines;
 pub mod listing;

@@ -1,12 +1,14 @@
 // Reads a tree file from standard input and writes its report to standard output. It takes about 160 KiB of stack: 64 KiB for the report, 7 KiB
 // for the input, and the 80 KiB that `report` takes.
 //
-// Rattle has no exit status. A failed read writes nothing to standard output, a failed write stops it short, and each says so on standard error.
+// A failed read writes nothing to standard output, a failed write stops it short, and each says so on standard error. The exit status is 0, but where
+// that cannot be said either.
+#![tactic(auto)]
 ghost use Rattle.std.specs.Prelude.{length};
 ghost use Rattle.treepaths.specs.Input.{InputIn};
 
-use io::write_all;
-use libc::{STDERR_FILENO, STDIN_FILENO, STDOUT_FILENO, read};
+use std::io;
+use std::io::{Print, Read};
 use treereport::report::report;
 
 // One byte more than the largest well-formed file: 1,025 offsets, 2,048 targets, the root and 64 queries, with the four counts, are 3,334 numbers
@@ -14,24 +16,25 @@ use treereport::report::report;
 // (law `long_bad` of treereport).
 const MAX_INPUT: usize = 6_669;
 
+// What the report is given, which is more than the longest report takes.
+const MAX_REPORT: usize = 65_536;
+
 // What was read.
-#[derive(Drop)]
+#[derive(Clone, Copy)]
 pub enum Input {
     Bytes(usize),
     Failed,
 }
 
 // Reads to the end of the input or of the buffer. A short read is no end, since a pipe hands over what it has; a read of no bytes is.
-fn read_input(buffer: &mut [u8]) -> Input
+fn read_input<R: Read>(reader: &mut R, buffer: &mut [u8]) -> Input
     ensures { InputIn (length buffer.new) result }
 {
     let mut count: usize = 0;
     while count < buffer.len() {
-        let got = read(STDIN_FILENO, &mut buffer[count..]);
-        if got < 0 {
+        let Ok(more) = reader.read(&mut buffer[count..]) else {
             return Input::Failed;
-        }
-        let more = io::count(got, &buffer[count..]);
+        };
         if more == 0 {
             return Input::Bytes(count);
         }
@@ -40,15 +43,15 @@ fn read_input(buffer: &mut [u8]) -> Input
     Input::Bytes(count)
 }
 
-fn main() {
+fn main(rt: HostRuntime) -> io::Result<()> {
     let mut input = [0u8; MAX_INPUT];
-    let Input::Bytes(count) = read_input(&mut input) else {
-        write_all(STDERR_FILENO, b"treepaths: cannot read standard input\n");
-        return;
+    let Input::Bytes(count) = read_input(&mut rt.stdin(), &mut input) else {
+        return rt.stderr().write_all(b"treepaths: cannot read standard input\n");
     };
-    let mut out = io::large_buffer();
+    let mut out = [0u8; MAX_REPORT];
     let length = report(&input[..count], &mut out);
-    if !write_all(STDOUT_FILENO, &out[..length]) {
-        write_all(STDERR_FILENO, b"treepaths: cannot write the report\n");
-    }
+    let Ok(()) = rt.write_all(&out[..length]) else {
+        return rt.stderr().write_all(b"treepaths: cannot write the report\n");
+    };
+    Ok(())
 }

@@ -1,5 +1,6 @@
 // Tree validation: a graph is accepted exactly when it is a tree.
 #![tactic(auto)]
+
 ghost use Rattle.graph.specs.Judgement.{Decides};
 ghost use Rattle.graph.specs.Validation.{Validates};
 ghost use Rattle.graph.specs.Steps.{Begun};

@@ -1,6 +1,7 @@
 // A breadth-first visit of the vertices that the root reaches, in lent work: from index base on n entries for the queue, n for the
 // position from which each vertex was met, and marks of one bit to a vertex.
 #![tactic(auto)]
+
 ghost use Rattle.std.specs.Prelude.{◌+◌};
 ghost use Rattle.visit.specs.Visit.{VisitAsks, VisitAnswers};
 ghost use Rattle.visit.specs.Steps.{Meets, Met, ListAsks, ListAnswers};

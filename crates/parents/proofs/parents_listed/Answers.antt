@@ -1,10 +1,9 @@
-use borrow.Author.Rules.{rules}
-use Prim.Native.Nat.{ℕ, ◌-◌, ◌+◌, ◌<◌}
+use Prim.Native.Nat.{◌+◌}
 use native.Mathlib.Omega.{arith}
 use mathlib.Core.Path.{sym, subst}
 use Rattle.paths.specs.Walk.{In}
 use Rattle.graph.proofs.Judging.{decides_no, decides_yes, passed, failed}
-use Rattle.parents.proofs.Listing.{Listed, listed_more}
+use Rattle.parents.proofs.Listing.{listed_more}
 use Rattle.parents.proofs.parents_listed.Goals as goal
 
 pub loop-j-init : goal.loop-j-init

@@ -1,10 +1,5 @@
-use borrow.Author.Rules.{rules}
-use Prim.Native.Nat.{ℕ, ◌-◌, ◌+◌, ◌<◌}
-use native.Mathlib.Omega.{arith}
-use mathlib.Core.Path.{sym, subst}
-use Rattle.paths.specs.Walk.{In}
-use Rattle.graph.proofs.Judging.{decides_no, decides_yes, passed, failed}
-use Rattle.parents.proofs.Listing.{Listed, listed_more}
+use Prim.Native.Nat.{ℕ, ◌-◌, ◌<◌}
+use Rattle.parents.proofs.Listing.{Listed}
 use Rattle.parents.proofs.parents_listed.Given as goal
 
 abbrev pub invariant-loop-j : goal.invariant-loop-j

@@ -1,12 +1,7 @@
-use borrow.Author.Rules.{rules}
 use Prim.Native.Nat.{ℕ, ◌≤◌, ◌<◌, ◌-◌}
-use native.Mathlib.Omega.{arith}
 use mathlib.Core.Logic.{◌≢◌}
 use lib.ListN.{length}
-use borrow.Author.Count.{below_more}
 use Rattle.sums.specs.Sum.{at}
-use Rattle.graph.proofs.Judging.{decides_no, decides_yes}
-use Rattle.parents.proofs.Listing.{entry_in, no_entry}
 use Rattle.parents.proofs.stands.Given as goal
 
 abbrev pub invariant-loop-k : goal.invariant-loop-k

@@ -1,7 +1,6 @@
 -- `heavier` meets its contract: each way out is one of its cases.
 use mathlib.Core.Path.{refl}
 use Rattle.passes.specs.Inner.{alone, less, more}
-use borrow.Author.Rules.{rules}
 use Rattle.passes.proofs.heavier.Goals as goal
 
 pub returns-then-best-eq0 : goal.returns-then-best-eq0

@@ -1,8 +1,7 @@
 -- `start_weights` meets its contract. The loop's invariant: the positions below j have the size 1 and no heavy child, and nothing else of work has
-use Prim.Native.Nat.{◌-◌}
 use native.Mathlib.Omega.{arith}
 use lib.ListN.{length-set}
-use Rattle.passes.proofs.Weights.{Starting, starting_start, starting_step, starting-done}
+use Rattle.passes.proofs.Weights.{starting_start, starting_step, starting-done}
 use Rattle.passes.proofs.start_weights.Goals as goal
 
 pub loop-j-init : goal.loop-j-init

@@ -1,8 +1,6 @@
 -- `start_weights` meets its contract. The loop's invariant: the positions below j have the size 1 and no heavy child, and nothing else of work has
 use Prim.Native.Nat.{◌-◌}
-use native.Mathlib.Omega.{arith}
-use lib.ListN.{length-set}
-use Rattle.passes.proofs.Weights.{Starting, starting_start, starting_step, starting-done}
+use Rattle.passes.proofs.Weights.{Starting}
 use Rattle.passes.proofs.start_weights.Given as goal
 
 -- changed. The measure is the number of positions left.

@@ -1,7 +1,5 @@
 -- `weigh` meets its contract. The loop's invariant: the positions from `left` on are handed on to their parents, and only the regions 2 and 3 have
-use native.Mathlib.Omega.{arith}
-use mir.Facts.{Fits-widen}
-use Rattle.passes.proofs.Weights.{WeighLoop, weigh_start, weigh-length, weigh_hands, weigh_step, weigh-done}
+use Rattle.passes.proofs.Weights.{WeighLoop}
 use Rattle.passes.proofs.weigh.Given as goal
 
 -- changed. The measure is the number of positions left.

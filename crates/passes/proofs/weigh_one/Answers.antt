@@ -2,7 +2,6 @@
 use native.Mathlib.Omega.{arith}
 use lib.ListN.{length-set}
 use Rattle.passes.proofs.Weights.{heavier-below, handed_on}
-use borrow.Author.Rules.{rules}
 use Rattle.passes.proofs.weigh_one.Goals as goal
 
 pub overflow_cast-work : goal.overflow_cast-work

@@ -1,8 +1,7 @@
 -- `number` meets its contract. The loop's invariant: the positions below j are ranked, and only the regions from 4 on have changed. The measure is the
-use Prim.Native.Nat.{◌-◌}
 use native.Mathlib.Omega.{arith}
 use mir.Facts.{Fits-widen}
-use Rattle.ranks.proofs.Numbers.{NumberLoop, number_start, number-length, number_asks, number_step, number-done}
+use Rattle.ranks.proofs.Numbers.{number_start, number-length, number_asks, number_step, number-done}
 use Rattle.ranks.proofs.number.Goals as goal
 
 pub overflow_mul-all : goal.overflow_mul-all

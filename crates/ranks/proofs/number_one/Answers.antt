@@ -3,7 +3,6 @@ use mathlib.Core.Path.{◌∙◌}
 use lib.ListN.{length-set}
 use mir.Facts.{Fits-widen}
 use Rattle.ranks.specs.Inner.{heavy, light}
-use borrow.Author.Rules.{rules}
 use Rattle.ranks.proofs.number_one.Goals as goal
 
 pub overflow_cast-work : goal.overflow_cast-work

@@ -2,7 +2,6 @@
 use native.Mathlib.Omega.{arith}
 use lib.ListN.{length-set}
 use Rattle.ranks.proofs.Numbers.{placed}
-use borrow.Author.Rules.{rules}
 use Rattle.ranks.proofs.place.Goals as goal
 
 pub bounds-work-n-2 : goal.bounds-work-n-2

@@ -1,8 +1,5 @@
-use borrow.Author.Rules.{rules}
-use Prim.Native.Nat.{◌≤◌, ◌-◌}
 use native.Mathlib.Omega.{arith}
 use mathlib.Core.Path.{sym, subst, ◌∙◌}
-use Rattle.tables.specs.Tables.{six}
 use Rattle.scatter.specs.Scatter.{Filled}
 use Rattle.scatter.proofs.Filling.{filled_none, filled_more, filled-all, still_asks}
 use Rattle.scatter.proofs.scatter.Goals as goal

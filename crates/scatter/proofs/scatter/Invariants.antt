@@ -1,10 +1,6 @@
-use borrow.Author.Rules.{rules}
 use Prim.Native.Nat.{◌≤◌, ◌-◌}
-use native.Mathlib.Omega.{arith}
-use mathlib.Core.Path.{sym, subst, ◌∙◌}
 use Rattle.tables.specs.Tables.{six}
 use Rattle.scatter.specs.Scatter.{Filled}
-use Rattle.scatter.proofs.Filling.{filled_none, filled_more, filled-all, still_asks}
 use Rattle.scatter.proofs.scatter.Given as goal
 
 abbrev pub invariant-loop-j : goal.invariant-loop-j

@@ -1,8 +1,6 @@
 -- `start_cursors` meets its contract. The loop's invariant: the cursors below u stand at the starts of their lists, and nothing else of work
 use Prim.Native.Nat.{◌-◌}
-use native.Mathlib.Omega.{arith}
 use Rattle.symmetry.specs.Inner.{Starting}
-use Rattle.symmetry.proofs.Loops.{start_start, start_step, start-done}
 use Rattle.symmetry.proofs.start_cursors.Given as goal
 
 -- has changed. The measure is the number of cursors left.

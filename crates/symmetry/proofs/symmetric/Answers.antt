@@ -1,6 +1,5 @@
 -- `symmetric` meets its contract: each call's answer is what the next one asks, and the last answer is the whole one.
 use borrow.Author.Tests.{not-true, not-false}
-use borrow.Author.Rules.{rules}
 use Rattle.symmetry.proofs.Whole.{to_turn, first_refuses, to_back, whole}
 use Rattle.symmetry.proofs.symmetric.Goals as goal
 

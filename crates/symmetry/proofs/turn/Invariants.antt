@@ -1,11 +1,7 @@
 -- `turn` meets its contract. The loop's invariant: the entries before e are turned, and only the cursors and the turned lists have changed.
 use Prim.Native.Nat.{◌+◌, ◌-◌}
-use native.Mathlib.Omega.{arith}
-use lib.ListN.{length, length-set}
-use mir.Facts.{Fits-widen}
+use lib.ListN.{length}
 use Rattle.symmetry.specs.Inner.{TurnLoop}
-use Rattle.symmetry.proofs.Loops.{next_fits, TurnRoom, turn_start, turn_room, turn_till, turn_step, turn_next, turn_refused, turn-done}
-use Rattle.symmetry.proofs.turn.Lts as lts
 use Rattle.symmetry.proofs.turn.Given as goal
 
 -- Each turn of the loop takes one entry or one list, so n and the entries bound their number.

@@ -1,11 +1,8 @@
 -- `turn_back` meets its contract. The loop's invariant: the entries of the turned lists before e are turned into those same lists, and only
-use Prim.Native.Nat.{◌+◌, ◌-◌}
 use native.Mathlib.Omega.{arith}
 use mir.Facts.{Fits-widen}
-use Rattle.sums.specs.Sum.{at}
-use Rattle.symmetry.specs.Inner.{BackLoop}
 use Rattle.symmetry.proofs.Loops.{next_fits}
-use Rattle.symmetry.proofs.LoopBack.{BackRoom, back_start, back_room, back_step, back_next, back_full, back_other, back_done}
+use Rattle.symmetry.proofs.LoopBack.{back_start, back_room, back_step, back_next, back_full, back_other, back_done}
 use Rattle.symmetry.proofs.turn_back.Goals as goal
 
 pub loop-u-init : goal.loop-u-init

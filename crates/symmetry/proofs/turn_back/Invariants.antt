@@ -1,12 +1,7 @@
 -- `turn_back` meets its contract. The loop's invariant: the entries of the turned lists before e are turned into those same lists, and only
 use Prim.Native.Nat.{◌+◌, ◌-◌}
-use native.Mathlib.Omega.{arith}
-use mir.Facts.{Fits-widen}
 use Rattle.sums.specs.Sum.{at}
 use Rattle.symmetry.specs.Inner.{BackLoop}
-use Rattle.symmetry.proofs.Loops.{next_fits}
-use Rattle.symmetry.proofs.LoopBack.{BackRoom, back_start, back_room, back_step, back_next, back_full, back_other, back_done}
-use Rattle.symmetry.proofs.turn_back.Lts as lts
 use Rattle.symmetry.proofs.turn_back.Given as goal
 
 -- the cursors have changed. Each turn of the loop takes one entry or one list, so n and the entries bound their number.

@@ -1,4 +1,3 @@
-use borrow.Author.Rules.{rules}
 use Rattle.graph.proofs.Judging.{passed, failed}
 use Rattle.validate.proofs.Steps.{bad_offsets_lem, bad_vertex_lem, bad_root_lem, visit_asks, counts_ask, listed_asks, not_listed, is_tree, symmetric_asks, not_symmetric_lem, not_reached, has_cycle_lem}
 use Rattle.validate.proofs.judge.Goals as goal

@@ -1,4 +1,3 @@
-use borrow.Author.Rules.{rules}
 use Rattle.graph.proofs.Judging.{decides_no, decides_eqb}
 use Rattle.validate.proofs.tree_counts.Goals as goal
 

@@ -1,4 +1,3 @@
-use borrow.Author.Rules.{rules}
 use Rattle.graph.proofs.Calling.{no_tables, begun, not_begun, still_begun, whole_call}
 use Rattle.validate.proofs.Steps.{judged-part}
 use Rattle.validate.proofs.validate_tree.Goals as goal

@@ -1,9 +1,7 @@
-use borrow.Author.Rules.{rules}
-use Prim.Native.Nat.{◌≤◌, ◌-◌, ◌+◌}
+use Prim.Native.Nat.{◌+◌}
 use native.Mathlib.Omega.{arith}
-use lib.ListN.{length}
 use Rattle.visit.proofs.Growing.{few}
-use Rattle.visit.proofs.Looking.{Looking, looking_start, list_asks, list_more, list_done}
+use Rattle.visit.proofs.Looking.{looking_start, list_asks, list_more, list_done}
 use Rattle.visit.proofs.meet_list.Goals as goal
 
 pub overflow_add-u : goal.overflow_add-u

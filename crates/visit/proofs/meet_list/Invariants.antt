@@ -1,9 +1,6 @@
-use borrow.Author.Rules.{rules}
-use Prim.Native.Nat.{◌≤◌, ◌-◌, ◌+◌}
-use native.Mathlib.Omega.{arith}
+use Prim.Native.Nat.{◌≤◌, ◌-◌}
 use lib.ListN.{length}
-use Rattle.visit.proofs.Growing.{few}
-use Rattle.visit.proofs.Looking.{Looking, looking_start, list_asks, list_more, list_done}
+use Rattle.visit.proofs.Looking.{Looking}
 use Rattle.visit.proofs.meet_list.Given as goal
 
 abbrev pub invariant-loop-k : goal.invariant-loop-k

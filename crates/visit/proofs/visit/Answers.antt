@@ -1,10 +1,8 @@
-use borrow.Author.Rules.{rules}
-use Prim.Native.Nat.{◌-◌}
 use native.Mathlib.Omega.{arith}
 use mathlib.Core.Path.{◌∙◌}
 use Rattle.graph.proofs.Frames.{only_refl}
 use Rattle.visit.proofs.Growing.{few}
-use Rattle.visit.proofs.Going.{Going, root_asks, root_seen, root_only, going_asks, going_more, going_done}
+use Rattle.visit.proofs.Going.{root_asks, root_seen, root_only, going_asks, going_more, going_done}
 use Rattle.visit.proofs.visit.Goals as goal
 
 pub zero-requires : goal.zero-requires

@@ -1,12 +1,11 @@
 -- `between::distance` meets its contract: it climbs to the ancestor and counts the edges on both sides of it.
-use borrow.Author.Rules.{rules}
 use borrow.Author.Tests.{not-true, not-false}
 use mathlib.Core.Path.{sym, ◌∙◌}
 use mathlib.Core.List.{[], ◌∷◌}
-use Rattle.tables.specs.Tables.{Six, six}
+use Rattle.tables.specs.Tables.{six}
 use Rattle.answers.specs.declared.answer.Answer.TheVariants.{Refused}
 use native.Mathlib.Omega.{arith}
-use Rattle.climb.proofs.Passed.{Passed, verdict_passed, verdict_refused, answered, lengths, few_parent, first_below, others}
+use Rattle.climb.proofs.Passed.{verdict_passed, verdict_refused, answered, lengths, few_parent, first_below, others}
 use Rattle.climb.proofs.Climbs.{climb_off_u, climb_off_v}
 use Rattle.climb.proofs.Reaching.{reached_off, reached_depth, reached_seat, seat_facts}
 use Rattle.climb.proofs.Handed.{climbs-from, climbed_there, climbed_off, climbed_unhung, climbed_on, p_low, q_low}

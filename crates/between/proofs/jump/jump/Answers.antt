@@ -1,11 +1,10 @@
 -- `between::jump` meets its contract: both vertices are reached, and the jump goes from the one place to the other.
-use borrow.Author.Rules.{rules}
 use borrow.Author.Tests.{not-true, not-false}
 use mathlib.Core.Path.{sym, ◌∙◌}
 use mathlib.Core.List.{[], ◌∷◌}
-use Rattle.tables.specs.Tables.{Six, six}
+use Rattle.tables.specs.Tables.{six}
 use Rattle.answers.specs.declared.answer.Answer.TheVariants.{Refused}
-use Rattle.climb.proofs.Passed.{Passed, verdict_passed, verdict_refused, answered, lengths, few_parent, first_below, others}
+use Rattle.climb.proofs.Passed.{verdict_passed, verdict_refused, answered, lengths, few_parent, first_below, others}
 use Rattle.climb.proofs.Climbs.{climb_off_u, climb_off_v}
 use Rattle.climb.proofs.Reaching.{reached_off, reached_vertex}
 use Rattle.climb.proofs.Handed.{climbs-from}

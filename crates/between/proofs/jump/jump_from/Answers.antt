@@ -1,6 +1,4 @@
 -- `between::jump_from` meets its contract: it climbs to the ancestor, and looks up where the steps end.
-use borrow.Author.Rules.{rules}
-use borrow.Author.Tests.{not-true, not-false}
 use native.Mathlib.Omega.{arith}
 use mathlib.Core.Path.{sym, ap, ◌∙◌}
 use Rattle.climb.specs.declared.places.Place.{Place}

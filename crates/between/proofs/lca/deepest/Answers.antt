@@ -1,5 +1,4 @@
 -- `between::deepest` meets its contract: the deeper of the first two, and then of it and the third.
-use borrow.Author.Rules.{rules}
 use Rattle.between.proofs.Answering.{deepest_three}
 use Rattle.between.proofs.lca.deepest.Goals as goal
 

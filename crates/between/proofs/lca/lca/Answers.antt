@@ -1,11 +1,10 @@
 -- `between::lca` meets its contract: each way out is a test that fails, and else the last deepest of where two of the three meet is chosen.
-use borrow.Author.Rules.{rules}
 use borrow.Author.Tests.{not-true, not-false}
 use mathlib.Core.Path.{sym, ◌∙◌, refl, ap}
 use mathlib.Core.List.{[], ◌∷◌}
-use Rattle.tables.specs.Tables.{Six, six}
+use Rattle.tables.specs.Tables.{six}
 use Rattle.answers.specs.declared.answer.Answer.TheVariants.{Refused}
-use Rattle.climb.proofs.Passed.{Passed, verdict_passed, verdict_refused, answered, lengths, few_parent, first_below, others}
+use Rattle.climb.proofs.Passed.{verdict_passed, verdict_refused, answered, lengths, few_parent, first_below, others}
 use Rattle.climb.proofs.Climbs.{climb_off_u, climb_off_v}
 use Rattle.climb.proofs.Reaching.{reached_off, reached_vertex}
 use Rattle.climb.proofs.Handed.{climbs-from}

@@ -1,6 +1,4 @@
 -- `between::meeting` meets its contract: it ends where the climb from the two vertices does.
-use borrow.Author.Rules.{rules}
-use borrow.Author.Tests.{not-true, not-false}
 use mathlib.Core.Path.{sym, ap, ◌∙◌}
 use Rattle.climb.specs.declared.places.Place.{Place}
 use Rattle.between.specs.Inner.{candidate_of, climb_end}

@@ -1,11 +1,6 @@
-use borrow.Author.Rules.{rules}
-use Prim.Native.Nat.{◌≤◌, ◌-◌}
 use native.Mathlib.Omega.{arith}
 use mir.Facts.{Fits-widen}
-use lib.ListN.{length, drop}
-use Rattle.paths.specs.Lists.{keep}
-use Rattle.centroid.specs.Search.{live}
-use Rattle.centroid.proofs.Adding.{Adding, loop_start, loop_asks, loop_more, loop-done}
+use Rattle.centroid.proofs.Adding.{loop_start, loop_asks, loop_more, loop-done}
 use Rattle.centroid.proofs.decompose.add_starts.Goals as goal
 
 pub loop-k-init : goal.loop-k-init

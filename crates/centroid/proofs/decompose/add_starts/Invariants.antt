@@ -1,11 +1,8 @@
-use borrow.Author.Rules.{rules}
 use Prim.Native.Nat.{◌≤◌, ◌-◌}
-use native.Mathlib.Omega.{arith}
-use mir.Facts.{Fits-widen}
 use lib.ListN.{length, drop}
 use Rattle.paths.specs.Lists.{keep}
 use Rattle.centroid.specs.Search.{live}
-use Rattle.centroid.proofs.Adding.{Adding, loop_start, loop_asks, loop_more, loop-done}
+use Rattle.centroid.proofs.Adding.{Adding}
 use Rattle.centroid.proofs.decompose.add_starts.Given as goal
 
 abbrev pub invariant-loop-k : goal.invariant-loop-k

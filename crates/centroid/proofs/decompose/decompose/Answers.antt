@@ -1,8 +1,7 @@
-use Prim.Native.Nat.{◌-◌}
 use native.Mathlib.Omega.{arith}
 use mathlib.Core.Path.{◌∙◌, sym}
 use lib.ListN.{length-set}
-use Rattle.centroid.proofs.Decomposing.{Going, begun_only, going_start, going_few, going_asks, going_more, going_done}
+use Rattle.centroid.proofs.Decomposing.{begun_only, going_start, going_few, going_asks, going_more, going_done}
 use Rattle.centroid.proofs.decompose.decompose.Goals as goal
 
 pub overflow_mul-n : goal.overflow_mul-n

@@ -1,8 +1,5 @@
 use Prim.Native.Nat.{◌-◌}
-use native.Mathlib.Omega.{arith}
-use mathlib.Core.Path.{◌∙◌, sym}
-use lib.ListN.{length-set}
-use Rattle.centroid.proofs.Decomposing.{Going, begun_only, going_start, going_few, going_asks, going_more, going_done}
+use Rattle.centroid.proofs.Decomposing.{Going}
 use Rattle.centroid.proofs.decompose.decompose.Given as goal
 
 abbrev pub invariant-loop-head : goal.invariant-loop-head

@@ -1,4 +1,3 @@
-use borrow.Author.Rules.{rules}
 use Rattle.centroid.proofs.Calling.{not_tree, tree_asks, is_tree}
 use Rattle.centroid.proofs.decompose.decompose_graph.Goals as goal
 

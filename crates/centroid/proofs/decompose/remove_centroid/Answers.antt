@@ -1,4 +1,3 @@
-use borrow.Author.Rules.{rules}
 use native.Mathlib.Omega.{arith}
 use mir.Facts.{Fits-widen}
 use Rattle.centroid.proofs.Taking.{take_few, take_asks, take_level, take_adds, taken}

@@ -1,4 +1,3 @@
-use borrow.Author.Rules.{rules}
 use Rattle.graph.proofs.Calling.{fits_told, begun_fits, begun, not_begun, still_begun, whole_call}
 use Rattle.centroid.proofs.decompose.try_centroid_decomposition.Goals as goal
 

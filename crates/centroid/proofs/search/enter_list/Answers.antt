@@ -1,9 +1,6 @@
-use borrow.Author.Rules.{rules}
-use Prim.Native.Nat.{◌≤◌, ◌-◌}
 use native.Mathlib.Omega.{arith}
 use mir.Facts.{Fits-widen}
-use lib.ListN.{length}
-use Rattle.centroid.proofs.Entering.{Entering, entering_start, asks_few, list_asks, list_more, list_done}
+use Rattle.centroid.proofs.Entering.{entering_start, asks_few, list_asks, list_more, list_done}
 use Rattle.centroid.proofs.search.enter_list.Goals as goal
 
 pub overflow_add-u : goal.overflow_add-u

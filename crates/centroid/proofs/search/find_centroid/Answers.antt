@@ -1,4 +1,3 @@
-use borrow.Author.Rules.{rules}
 use Rattle.centroid.proofs.Finding.{pick_asks, found}
 use Rattle.centroid.proofs.search.find_centroid.Goals as goal
 

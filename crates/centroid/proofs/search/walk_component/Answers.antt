@@ -1,8 +1,7 @@
-use Prim.Native.Nat.{◌-◌}
 use native.Mathlib.Omega.{arith}
 use mathlib.Core.Path.{◌∙◌}
 use lib.ListN.{length-set}
-use Rattle.centroid.proofs.Walking.{Walking, started_only, walking_start, walking_few, walking_asks, walking_more, walking-done}
+use Rattle.centroid.proofs.Walking.{started_only, walking_start, walking_few, walking_asks, walking_more, walking-done}
 use Rattle.centroid.proofs.search.walk_component.Goals as goal
 
 pub overflow_cast-work : goal.overflow_cast-work

@@ -1,8 +1,5 @@
 use Prim.Native.Nat.{◌-◌}
-use native.Mathlib.Omega.{arith}
-use mathlib.Core.Path.{◌∙◌}
-use lib.ListN.{length-set}
-use Rattle.centroid.proofs.Walking.{Walking, started_only, walking_start, walking_few, walking_asks, walking_more, walking-done}
+use Rattle.centroid.proofs.Walking.{Walking}
 use Rattle.centroid.proofs.search.walk_component.Given as goal
 
 abbrev pub invariant-loop-i : goal.invariant-loop-i

@@ -1,5 +1,4 @@
 -- `tables::read` meets its contract: the tests before it, then the entry.
-use borrow.Author.Rules.{rules}
 use mir.Facts.{Fits-widen}
 use native.Mathlib.Omega.{arith}
 use mathlib.Core.Path.{sym, ◌∙◌}

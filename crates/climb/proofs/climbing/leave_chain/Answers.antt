@@ -1,5 +1,4 @@
 -- `climbing::leave_chain` meets its contract: the parent of the head is reached where a chain is left to leave.
-use borrow.Author.Rules.{rules}
 use Rattle.numbering.proofs.Logs.{log2_more, log2_worn}
 use Rattle.climb.proofs.Reaching.{leave_late, leave_here}
 use Rattle.climb.proofs.climbing.leave_chain.Goals as goal

@@ -1,5 +1,4 @@
 -- `sound::hangs` meets its contract: each return says how far its tests passed.
-use borrow.Author.Rules.{rules}
 use borrow.Author.Tests.{lt-ltb, le-ltb, eq-eqb, ne_eqb}
 use native.Mathlib.Omega.{arith}
 use Rattle.answers.specs.Limits.{no_parent}

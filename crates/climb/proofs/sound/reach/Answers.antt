@@ -1,5 +1,4 @@
 -- `sound::reach` meets its contract: the vertex's own numbers are tested first, then its head is read.
-use borrow.Author.Rules.{rules}
 use mir.Facts.{Fits-widen}
 use Rattle.climb.proofs.Reaching.{reach_deep, reach_far}
 use mathlib.Core.Path.{refl}

@@ -1,5 +1,4 @@
 -- `sound::reach_above` meets its contract: each way out is a test of hanging, and then the parent is reached.
-use borrow.Author.Rules.{rules}
 use native.Mathlib.Omega.{arith}
 use mir.Facts.{Fits-widen}
 use Rattle.climb.proofs.Reaching.{above-beyond, above_uneven, above_late, above_reads, above_here}

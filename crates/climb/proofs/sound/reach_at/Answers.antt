@@ -1,5 +1,4 @@
 -- `sound::reach_at` meets its contract: each way out is one of the tests, and one sum makes the last three.
-use borrow.Author.Rules.{rules}
 use native.Mathlib.Omega.{arith}
 use mir.Facts.{Fits-widen}
 use Rattle.climb.proofs.Reaching.{reach-beyond, reach_high, reach_here}

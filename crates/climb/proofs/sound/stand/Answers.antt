@@ -1,5 +1,4 @@
 -- `sound::stand` meets its contract: soundness is to be reached under a head that hangs.
-use borrow.Author.Rules.{rules}
 use borrow.Author.Tests.{not-true, not-false}
 use mathlib.Core.Path.{sym, ◌∙◌}
 use Rattle.climb.proofs.Reaching.{stand_off, stand_unhung, stand_here}

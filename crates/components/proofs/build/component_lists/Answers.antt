@@ -1,4 +1,3 @@
-use borrow.Author.Rules.{rules}
 use Rattle.graph.proofs.Calling.{no_tables, begun, not_begun, still_begun}
 use Rattle.components.proofs.Answering.{lists_whole}
 use Rattle.components.proofs.build.component_lists.Goals as goal

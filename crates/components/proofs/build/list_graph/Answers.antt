@@ -1,4 +1,3 @@
-use borrow.Author.Rules.{rules}
 use native.Mathlib.Omega.{arith}
 use Rattle.graph.proofs.Judging.{passed, failed}
 use Rattle.components.proofs.Answering.{no_starts, not_tree, tree_asks, total_asks, not_fitting, list_asks, listed}

@@ -1,8 +1,7 @@
-use Prim.Native.Nat.{◌-◌}
 use native.Mathlib.Omega.{arith}
 use mathlib.Core.Path.{◌∙◌}
 use lib.ListN.{length-set}
-use Rattle.components.proofs.Levelling.{Finding, find_begun, find_start, find_few, find_asks, find_more, find-done}
+use Rattle.components.proofs.Levelling.{find_begun, find_start, find_few, find_asks, find_more, find-done}
 use Rattle.components.proofs.levels.find_levels.Goals as goal
 
 pub overflow_mul-n : goal.overflow_mul-n

@@ -1,7 +1,6 @@
 use native.Mathlib.Omega.{arith}
 use mir.Facts.{Fits-widen}
 use Rattle.components.proofs.Levelling.{level_few, level_searches, level_low, level_adds, level_removed}
-use borrow.Author.Rules.{rules}
 use Rattle.components.proofs.levels.remove_level.Goals as goal
 
 pub offset_bounds-work-n : goal.offset_bounds-work-n

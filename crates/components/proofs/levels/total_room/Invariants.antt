@@ -1,10 +1,6 @@
-use Prim.Native.Nat.{ℕ, ◌+◌, ◌*◌, ◌-◌, ◌≤◌}
-use native.Mathlib.Omega.{arith}
-use mathlib.Core.Path.{◌≡◌, refl, ap, ◌∙◌}
-use mir.Facts.{Fits-widen}
+use Prim.Native.Nat.{◌+◌, ◌*◌, ◌-◌, ◌≤◌}
+use mathlib.Core.Path.{◌≡◌}
 use Rattle.sums.specs.Sum.{at, sum}
-use Rattle.answers.proofs.Bounds.{vertices_small, chains_small}
-use Rattle.components.proofs.Held.{sum_next}
 use Rattle.centroid.specs.Regions.{level_of_at}
 use Rattle.components.proofs.levels.total_room.Given as goal
 

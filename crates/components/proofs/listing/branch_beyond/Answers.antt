@@ -1,6 +1,5 @@
 use mathlib.Core.Path.{sym}
 use Rattle.components.proofs.Passing.{beyond_centre, beyond_other}
-use borrow.Author.Rules.{rules}
 use Rattle.components.proofs.listing.branch_beyond.Goals as goal
 
 pub returns-then-x-c : goal.returns-then-x-c

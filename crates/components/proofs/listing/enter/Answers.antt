@@ -4,7 +4,6 @@ use mathlib.Core.Path.{refl, ap}
 use lib.ListN.{set}
 use Rattle.components.specs.Entering.{level_in, left, new}
 use Rattle.components.proofs.Passing.{leads_low, leads_back, leads_on}
-use borrow.Author.Rules.{rules}
 use Rattle.components.proofs.listing.enter.Goals as goal
 
 pub returns-then-own-least : goal.returns-then-own-least

@@ -1,11 +1,6 @@
-use borrow.Author.Rules.{rules}
-use Prim.Native.Nat.{◌≤◌, ◌-◌}
 use native.Mathlib.Omega.{arith}
 use mir.Facts.{Fits-widen}
-use lib.ListN.{length, drop}
-use Rattle.paths.specs.Lists.{keep}
-use Rattle.components.specs.Entering.{leads, level_in}
-use Rattle.components.proofs.Putting.{Putting, put_start, put_long, put_asks, put_next, put-done}
+use Rattle.components.proofs.Putting.{put_start, put_long, put_asks, put_next, put-done}
 use Rattle.components.proofs.listing.enter_list.Goals as goal
 
 pub offset_bounds-vertices-i : goal.offset_bounds-vertices-i

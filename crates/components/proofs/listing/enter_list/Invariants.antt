@@ -1,11 +1,8 @@
-use borrow.Author.Rules.{rules}
 use Prim.Native.Nat.{◌≤◌, ◌-◌}
-use native.Mathlib.Omega.{arith}
-use mir.Facts.{Fits-widen}
 use lib.ListN.{length, drop}
 use Rattle.paths.specs.Lists.{keep}
 use Rattle.components.specs.Entering.{leads, level_in}
-use Rattle.components.proofs.Putting.{Putting, put_start, put_long, put_asks, put_next, put-done}
+use Rattle.components.proofs.Putting.{Putting}
 use Rattle.components.proofs.listing.enter_list.Given as goal
 
 abbrev pub invariant-loop-k : goal.invariant-loop-k

@@ -1,7 +1,6 @@
-use Prim.Native.Nat.{◌-◌}
 use native.Mathlib.Omega.{arith}
 use lib.ListN.{length-set}
-use Rattle.components.proofs.Gathering.{Gathering, gather_start, gather_low, gather_long, gather_asks}
+use Rattle.components.proofs.Gathering.{gather_start, gather_low, gather_long, gather_asks}
 use Rattle.components.proofs.Gathered.{gather_more, gather-done}
 use Rattle.components.proofs.listing.list_all.Goals as goal
 

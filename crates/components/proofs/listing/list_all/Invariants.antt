@@ -1,8 +1,5 @@
 use Prim.Native.Nat.{◌-◌}
-use native.Mathlib.Omega.{arith}
-use lib.ListN.{length-set}
-use Rattle.components.proofs.Gathering.{Gathering, gather_start, gather_low, gather_long, gather_asks}
-use Rattle.components.proofs.Gathered.{gather_more, gather-done}
+use Rattle.components.proofs.Gathering.{Gathering}
 use Rattle.components.proofs.listing.list_all.Given as goal
 
 abbrev pub invariant-loop-c : goal.invariant-loop-c

@@ -1,6 +1,5 @@
-use Prim.Native.Nat.{◌+◌, ◌-◌}
 use native.Mathlib.Omega.{arith}
-use Rattle.components.proofs.Walking.{Walking, walk_place, walk_few, walk_asks}
+use Rattle.components.proofs.Walking.{walk_place, walk_few, walk_asks}
 use Rattle.components.proofs.Walked.{walk_begun, walk_start, walk_lengths, walk_more, walk-done}
 use Rattle.components.proofs.listing.list_component.Goals as goal
 

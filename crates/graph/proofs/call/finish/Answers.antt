@@ -1,4 +1,3 @@
-use borrow.Author.Rules.{rules}
 use Rattle.graph.proofs.call.finish.Goals as goal
 
 pub returns : goal.returns

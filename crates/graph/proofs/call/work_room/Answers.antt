@@ -1,4 +1,3 @@
-use borrow.Author.Rules.{rules}
 use native.Mathlib.Omega.{arith}
 use Rattle.graph.proofs.Rooms.{room_fits}
 use Rattle.graph.proofs.call.work_room.Goals as goal

@@ -1,4 +1,3 @@
-use borrow.Author.Rules.{rules}
 use native.Mathlib.Omega.{arith}
 use Rattle.answers.specs.Limits.{max_vertices, max_targets}
 use Rattle.graph.proofs.Judging.{decides_no, decides_leb}

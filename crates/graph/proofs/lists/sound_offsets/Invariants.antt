@@ -1,12 +1,7 @@
 -- `lists::sound_offsets` meets its contract: the loop decides of the offsets up to here that none falls.
-use borrow.Author.Rules.{rules}
-use borrow.Author.Tests.{not-true, not-false}
 use Prim.Native.Nat.{ℕ, ◌≤◌, ◌<◌, ◌-◌, ◌+◌}
-use native.Mathlib.Omega.{arith}
 use Rattle.sums.specs.Sum.{at}
 use Rattle.graph.specs.Judgement.{Decides}
-use Rattle.graph.proofs.Judging.{decides_yes, decides_no, decides_eqb, decides_more}
-use mir.Facts.{Fits-widen}
 use Rattle.graph.proofs.lists.sound_offsets.Given as goal
 
 abbrev pub invariant-loop-u : goal.invariant-loop-u

@@ -1,10 +1,7 @@
 -- `lists::sound_targets` meets its contract: the loop decides it of the targets up to here.
-use borrow.Author.Rules.{rules}
-use Prim.Native.Nat.{ℕ, ◌≤◌, ◌<◌, ◌-◌}
+use Prim.Native.Nat.{◌<◌}
 use native.Mathlib.Omega.{arith}
-use lib.ListN.{length}
 use Rattle.sums.specs.Sum.{at}
-use Rattle.graph.specs.Judgement.{Decides}
 use Rattle.graph.specs.Lent.{vertices}
 use Rattle.graph.proofs.Judging.{decides_yes, decides_more}
 use mir.Facts.{Fits-widen}

@@ -1,4 +1,3 @@
-use borrow.Author.Rules.{rules}
 use Rattle.graph.proofs.Bits.{marks_store}
 use Rattle.graph.proofs.marks.mark.Goals as goal
 

@@ -1,4 +1,3 @@
-use borrow.Author.Rules.{rules}
 use Rattle.graph.proofs.Bits.{mark-test}
 use Rattle.graph.proofs.marks.marked.Goals as goal
 

@@ -1,5 +1,4 @@
-use borrow.Author.Rules.{rules}
-use Prim.Native.Nat.{ℕ, ◌≤◌, ◌-◌}
+use Prim.Native.Nat.{ℕ}
 use native.Mathlib.Omega.{arith}
 use mathlib.Core.Path.{subst}
 use Rattle.graph.specs.Work.{Zeroed}

@@ -1,9 +1,5 @@
-use borrow.Author.Rules.{rules}
-use Prim.Native.Nat.{ℕ, ◌≤◌, ◌-◌}
-use native.Mathlib.Omega.{arith}
-use mathlib.Core.Path.{subst}
+use Prim.Native.Nat.{◌≤◌, ◌-◌}
 use Rattle.graph.specs.Work.{Zeroed}
-use Rattle.graph.proofs.Frames.{zeroed_none, zeroed_more}
 use Rattle.graph.proofs.work.zero.Given as goal
 
 abbrev pub invariant-loop-i : goal.invariant-loop-i

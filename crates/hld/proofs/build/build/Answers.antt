@@ -1,4 +1,3 @@
-use borrow.Author.Rules.{rules}
 use native.Mathlib.Omega.{arith}
 use Rattle.hld.proofs.Whole.{build_refused, to_weigh, to_number, to_scatter, build-done}
 use Rattle.hld.proofs.build.build.Goals as goal

@@ -1,5 +1,4 @@
 -- `ancestors::ancestor_in` meets its contract: the lookup from the vertex that was reached.
-use borrow.Author.Rules.{rules}
 use borrow.Author.Tests.{not-true, not-false}
 use mathlib.Core.Path.{sym, ◌∙◌}
 use Rattle.climb.proofs.Reaching.{reached_off, reached_seat}

@@ -1,5 +1,4 @@
 -- `ancestors::entry_at` meets its contract: each return says how far its tests passed.
-use borrow.Author.Rules.{rules}
 use borrow.Author.Tests.{lt-ltb, le-ltb, eq-eqb, ne_eqb}
 use mir.Facts.{Fits-widen}
 use Rattle.queries.proofs.ancestors.entry_at.Goals as goal

@@ -1,10 +1,9 @@
 -- `ancestors::kth_ancestor` meets its contract: it looks up from v.
-use borrow.Author.Rules.{rules}
 use mathlib.Core.Path.{sym, ◌∙◌}
 use mathlib.Core.List.{[], ◌∷◌}
-use Rattle.tables.specs.Tables.{Six, six}
+use Rattle.tables.specs.Tables.{six}
 use Rattle.answers.specs.declared.answer.Answer.TheVariants.{Refused}
-use Rattle.climb.proofs.Passed.{Passed, verdict_passed, verdict_refused, answered, lengths, first_below}
+use Rattle.climb.proofs.Passed.{verdict_passed, verdict_refused, answered, lengths, first_below}
 use Rattle.queries.proofs.ancestors.kth_ancestor.Goals as goal
 
 pub returns-in-Refused : goal.returns-in-Refused

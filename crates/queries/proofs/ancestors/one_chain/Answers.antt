@@ -1,5 +1,4 @@
 -- `ancestors::one_chain` meets its contract: each way out is one chain of the lookup.
-use borrow.Author.Rules.{rules}
 use borrow.Author.Tests.{not-true, not-false}
 use native.Mathlib.Omega.{arith}
 use mathlib.Core.Path.{sym, ◌∙◌}

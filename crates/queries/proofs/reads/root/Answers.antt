@@ -1,13 +1,12 @@
 -- `reads::root` meets its contract: the first vertex of the order, where it is one and sound.
-use borrow.Author.Rules.{rules}
 use borrow.Author.Tests.{not-true, not-false}
 use mathlib.Core.Path.{sym, ◌∙◌}
 use mathlib.Core.List.{[]}
-use Rattle.tables.specs.Tables.{Six, six}
+use Rattle.tables.specs.Tables.{six}
 use native.Mathlib.Omega.{arith}
 use mir.Facts.{Fits-widen}
 use Rattle.answers.specs.declared.answer.Answer.TheVariants.{Refused}
-use Rattle.climb.proofs.Passed.{Passed, verdict_passed, verdict_refused, lengths}
+use Rattle.climb.proofs.Passed.{verdict_passed, verdict_refused, lengths}
 use Rattle.climb.proofs.Reaching.{stood_on, stood_off}
 use Rattle.queries.proofs.Reading.{root-beyond, root_off, root_on}
 use Rattle.queries.proofs.reads.root.Goals as goal

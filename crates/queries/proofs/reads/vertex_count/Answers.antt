@@ -1,10 +1,9 @@
 -- `reads::vertex_count` meets its contract.
-use borrow.Author.Rules.{rules}
 use mathlib.Core.Path.{sym, ◌∙◌}
 use mathlib.Core.List.{[]}
-use Rattle.tables.specs.Tables.{Six, six}
+use Rattle.tables.specs.Tables.{six}
 use Rattle.answers.specs.declared.answer.Answer.TheVariants.{Refused}
-use Rattle.climb.proofs.Passed.{Passed, verdict_passed, verdict_refused}
+use Rattle.climb.proofs.Passed.{verdict_passed, verdict_refused}
 use Rattle.queries.proofs.Reading.{count_answer}
 use Rattle.queries.proofs.reads.vertex_count.Goals as goal
 

@@ -1,11 +1,10 @@
 -- `reads::vertex_id` meets its contract: it reads the number where v is sound.
-use borrow.Author.Rules.{rules}
 use borrow.Author.Tests.{not-true, not-false}
 use mathlib.Core.Path.{sym, ◌∙◌, ap}
 use mathlib.Core.List.{[], ◌∷◌}
-use Rattle.tables.specs.Tables.{Six, six}
+use Rattle.tables.specs.Tables.{six}
 use Rattle.answers.specs.declared.answer.Answer.TheVariants.{Refused}
-use Rattle.climb.proofs.Passed.{Passed, verdict_passed, verdict_refused, lengths, first_below}
+use Rattle.climb.proofs.Passed.{verdict_passed, verdict_refused, lengths, first_below}
 use Rattle.climb.proofs.Reaching.{stood_on, stood_off}
 use Rattle.queries.proofs.Reading.{read_off, read_on}
 use Rattle.climb.specs.declared.places.Place.{Place}

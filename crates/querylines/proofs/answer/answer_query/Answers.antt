@@ -1,10 +1,9 @@
-use mathlib.Core.Logic.{⊎_elim, inl, inr}
+use mathlib.Core.Logic.{inl, inr}
 use Rattle.treefile.specs.Report.{number_text}
 use mathlib.Core.Path.{sym, ap, ◌∙◌}
 use Rattle.treefile.proofs.Writing.{puts_as, room_as}
 use native.Mathlib.Omega.{arith}
 use Rattle.querylines.proofs.Texts.{number_text_lem, path_text}
-use borrow.Author.Rules.{rules}
 use Rattle.querylines.proofs.answer.answer_query.Goals as goal
 use Rattle.querylines.proofs.answer.answer_query.Goals.{in_default-via-then-kind-lt1, in_default-via-else-kind-lt1+else-kind-lt6}
 

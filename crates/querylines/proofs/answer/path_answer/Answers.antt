@@ -1,6 +1,5 @@
 use native.Mathlib.Omega.{arith}
 use Rattle.querylines.proofs.Texts.{kind-six, kind_seven, kind_other}
-use borrow.Author.Rules.{rules}
 use Rattle.querylines.proofs.answer.path_answer.Goals as goal
 
 pub returns-in-6 : goal.returns-in-6

@@ -1,7 +1,6 @@
 use Rattle.treefile.proofs.Writing.{puts_as}
 use native.Mathlib.Omega.{arith}
 use Rattle.querylines.proofs.Texts.{left_room, left_text}
-use borrow.Author.Rules.{rules}
 use Rattle.querylines.proofs.answer.put_path.Goals as goal
 
 pub put_list-requires : goal.put_list-requires

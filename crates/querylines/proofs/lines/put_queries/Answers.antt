@@ -1,10 +1,9 @@
 use Rattle.querylines.proofs.Placing.{lines_room, lines_more}
 use Rattle.querylines.specs.Lines.{queries_of}
 use Rattle.treefile.proofs.Writing.{puts_as, puts-length, puts_none}
-use Rattle.treefile.specs.Writing.{Puts}
 use Rattle.treefile.specs.Report.{query_lines}
 use Rattle.tables.specs.Tables.{six}
-use Prim.Native.Nat.{ℕ, ◌≤◌, ◌-◌}
+use Prim.Native.Nat.{ℕ}
 use mathlib.Core.Path.{◌≡◌, ap}
 use native.Mathlib.Omega.{arith}
 use Rattle.querylines.proofs.lines.put_queries.Goals as goal

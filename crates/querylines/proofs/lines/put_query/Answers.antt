@@ -1,7 +1,6 @@
 use Rattle.treefile.proofs.Report.{query_line_lem}
 use Rattle.treefile.proofs.Writing.{puts_as, puts_then, room_as, room_first, room_then}
 use mathlib.Core.Path.{sym}
-use borrow.Author.Rules.{rules}
 use Rattle.querylines.proofs.lines.put_query.Goals as goal
 
 pub put_query_head-first-requires : goal.put_query_head-first-requires

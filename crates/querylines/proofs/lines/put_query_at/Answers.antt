@@ -1,5 +1,4 @@
 use mir.Facts.{Fits-widen}
-use borrow.Author.Rules.{rules}
 use Rattle.querylines.proofs.lines.put_query_at.Goals as goal
 
 pub overflow_cast-kind : goal.overflow_cast-kind

@@ -1,5 +1,4 @@
 -- `lists::climb_between` meets its contract: each way out is one of the ways that the climb from u and v ends.
-use borrow.Author.Rules.{rules}
 use borrow.Author.Tests.{not-true, not-false}
 use mathlib.Core.Path.{sym, ◌∙◌}
 use Rattle.climb.proofs.Reaching.{reached_off}

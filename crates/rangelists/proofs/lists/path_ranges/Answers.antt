@@ -1,12 +1,8 @@
 -- `lists::path_ranges` meets its contract: each way out is one of the ways that a call for ranges goes.
-use borrow.Author.Rules.{rules}
 use native.Mathlib.Omega.{arith}
-use mathlib.Core.Path.{◌≡◌, sym, ap, ◌∙◌}
-use mathlib.Core.List.{[], ◌∷◌}
+use mathlib.Core.Path.{sym, ap, ◌∙◌}
 use lib.ListN.{length}
-use Rattle.tables.specs.Tables.{Six, six}
-use Rattle.climb.specs.Asked.{asked}
-use Rattle.answers.specs.declared.asked.Verdict.TheVariants.{Ready, Refused}
+use Rattle.tables.specs.Tables.{six}
 use Rattle.rangelists.proofs.Listing.{last_few, met_known, met-ends, met_few, ranges_refused, ready-some, ready_small, ready_climbs, ranges_lost, ranges_short, ranges-written}
 use Rattle.rangelists.proofs.lists.path_ranges.Goals as goal
 

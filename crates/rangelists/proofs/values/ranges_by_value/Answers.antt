@@ -1,5 +1,4 @@
 -- `values::ranges_by_value` meets its contract: the array has room for every path.
-use borrow.Author.Rules.{rules}
 use Rattle.answers.specs.Limits.{most_chains}
 use Rattle.tables.specs.Tables.{six}
 use Rattle.rangelists.proofs.Valued.{valued}

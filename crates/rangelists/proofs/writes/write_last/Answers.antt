@@ -1,5 +1,4 @@
 -- `writes::write_last` meets its contract.
-use borrow.Author.Rules.{rules}
 use mathlib.Core.Path.{sym, ap, ◌∙◌}
 use Rattle.ranges.specs.declared.chains.Last.{Last}
 use Rattle.ranges.specs.Inner.{last_list, written}

@@ -1,5 +1,4 @@
 -- `chains::chain_range` meets its contract: the doubled numbers neither wrap nor fall below zero.
-use borrow.Author.Rules.{rules}
 use native.Mathlib.Omega.{arith}
 use Rattle.answers.proofs.Bounds.{vertices_small}
 use Rattle.ranges.proofs.chains.chain_range.Goals as goal

@@ -1,5 +1,4 @@
 -- `chains::last_chain` meets its contract: the piece of the last chain has a number.
-use borrow.Author.Rules.{rules}
 use mathlib.Core.Path.{sym, ap, subst, ◌∙◌}
 use Rattle.ranges.specs.Ranges.{last_range}
 use Rattle.ranges.specs.Inner.{Numbers}

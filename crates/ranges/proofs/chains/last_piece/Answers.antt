@@ -1,5 +1,4 @@
 -- `chains::last_piece` meets its contract: the piece lies between the numbers of both ends.
-use borrow.Author.Rules.{rules}
 use native.Mathlib.Omega.{arith}
 use borrow.Author.Tests.{lt-ltb, le-ltb}
 use Rattle.answers.proofs.Bounds.{vertices_small}

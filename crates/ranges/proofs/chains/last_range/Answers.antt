@@ -1,5 +1,4 @@
 -- `chains::last_range` meets its contract: each kind has its range, or none where it would be empty.
-use borrow.Author.Rules.{rules}
 use native.Mathlib.Omega.{arith}
 use borrow.Author.Tests.{lt-ltb, le-ltb}
 use Rattle.answers.proofs.Bounds.{vertices_small}

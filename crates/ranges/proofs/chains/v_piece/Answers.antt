@@ -1,5 +1,4 @@
 -- `chains::v_piece` meets its contract: the number above the vertex's own does not wrap.
-use borrow.Author.Rules.{rules}
 use native.Mathlib.Omega.{arith}
 use Rattle.answers.proofs.Bounds.{vertices_small}
 use Rattle.ranges.proofs.chains.v_piece.Goals as goal

@@ -1,5 +1,4 @@
 -- `flat::range_at` meets its contract: the numbers of a slot stand within the list.
-use borrow.Author.Rules.{rules}
 use mir.Facts.{Fits-widen}
 use Rattle.ranges.specs.Flat.{range_at}
 use Rattle.ranges.proofs.flat.range_at.Goals as goal

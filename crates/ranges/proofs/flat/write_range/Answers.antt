@@ -1,5 +1,4 @@
 -- `flat::write_range` meets its contract: three stores fill a slot.
-use borrow.Author.Rules.{rules}
 use Rattle.ranges.proofs.Slots.{stored}
 use native.Mathlib.Omega.{arith}
 use lib.ListN.{length-set}

@@ -3,7 +3,6 @@ use borrow.Author.Rules.{rules}
 use native.Mathlib.Omega.{arith}
 use mathlib.Core.Path.{sym, ◌∙◌}
 use lib.ListN.{length}
-use borrow.Author.Tests.{not-true, not-false}
 use Rattle.ranges.proofs.Parted.{named_means, part_of_none, part_forward, part_reversed}
 use Rattle.ranges.proofs.parts.rule_part.Goals as goal
 

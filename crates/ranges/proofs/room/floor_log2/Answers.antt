@@ -1,5 +1,4 @@
 -- `room::floor_log2` meets its contract: the leading zeros of n, its highest set bit and log2 n bits below it make 64.
-use borrow.Author.Rules.{rules}
 use native.Mathlib.Omega.{arith}
 use Rattle.numbering.proofs.Logs.{log2_leading}
 use Rattle.ranges.proofs.room.floor_log2.Goals as goal

@@ -1,5 +1,4 @@
 -- `room::range_room` meets its contract.
-use borrow.Author.Rules.{rules}
 use native.Mathlib.Omega.{arith}
 use borrow.Author.Tests.{le-leb, lt-leb}
 use Rattle.answers.specs.Limits.{max_vertices}

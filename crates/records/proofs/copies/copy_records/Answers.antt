@@ -1,5 +1,5 @@
 -- `copies::copy_records` meets its contract: each turn copies the next record.
-use Rattle.std.proofs.Common.{◌≡◌, ℕ, suc, ◌+◌, ◌-◌, ◌<◌, ◌≤◌, List, set, refl, sym, ap, ◌∙◌, arith}
+use Rattle.std.proofs.Common.{◌≡◌, ℕ, suc, ◌+◌, ◌-◌, ◌<◌, List, set, refl, sym, ap, ◌∙◌, arith}
 use Rattle.ranges.specs.declared.kinds.PathRange.{PathRange}
 use Rattle.ranges.specs.Flat.{range_at}
 use Rattle.records.specs.Inner.{copied}

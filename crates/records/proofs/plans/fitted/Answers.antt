@@ -1,5 +1,4 @@
 -- `plans::fitted` meets its contract, case by case.
-use borrow.Author.Rules.{rules}
 use borrow.Author.Tests.{le-leb, lt-leb}
 use Rattle.records.proofs.plans.fitted.Goals as goal
 

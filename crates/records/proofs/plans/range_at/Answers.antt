@@ -1,6 +1,5 @@
 -- `plans::range_at` meets its contract: the numbers of a record stand within the array, which is as long as its type says.
-use Rattle.std.proofs.Common.{arith, rules}
-use Rattle.std.proofs.lemmas.Grind.{common_steps}
+use Rattle.std.proofs.Common.{rules}
 use Rattle.answers.specs.Limits.{most_chains}
 use Rattle.records.proofs.plans.range_at.Goals as goal
 

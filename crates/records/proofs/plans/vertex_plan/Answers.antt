@@ -1,5 +1,4 @@
 -- `plans::vertex_plan` meets its contract: what the core hands back by value gives a plan for the room.
-use borrow.Author.Rules.{rules}
 use Rattle.records.proofs.Planning.{planned}
 use Rattle.records.proofs.plans.vertex_plan.Goals as goal
 

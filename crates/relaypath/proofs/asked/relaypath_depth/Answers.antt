@@ -1,6 +1,4 @@
 -- `asked::relaypath_depth` meets its contract: it hands over what the query of its name answers.
-use borrow.Author.Rules.{rules}
-use Rattle.relaypath.proofs.asked.relaypath_depth.Lts as lts
 use Rattle.relaypath.proofs.Handing.{handed_as}
 use Rattle.relaypath.proofs.asked.relaypath_depth.Goals as goal
 

@@ -1,6 +1,4 @@
 -- `asked::relaypath_kth_ancestor` meets its contract: it hands over what the query of its name answers.
-use borrow.Author.Rules.{rules}
-use Rattle.relaypath.proofs.asked.relaypath_kth_ancestor.Lts as lts
 use Rattle.relaypath.proofs.Handing.{handed_as}
 use Rattle.relaypath.proofs.asked.relaypath_kth_ancestor.Goals as goal
 

@@ -1,6 +1,4 @@
 -- `asked::relaypath_lca` meets its contract: it hands over what the query of its name answers.
-use borrow.Author.Rules.{rules}
-use Rattle.relaypath.proofs.asked.relaypath_lca.Lts as lts
 use Rattle.relaypath.proofs.Handing.{handed_as}
 use Rattle.relaypath.proofs.asked.relaypath_lca.Goals as goal
 

@@ -1,5 +1,4 @@
 -- `asked::relaypath_subtree_range` meets its contract: it hands over what the query of its name answers.
-use borrow.Author.Rules.{rules}
 use Rattle.relaypath.proofs.Handing.{ends_as}
 use Rattle.relaypath.proofs.asked.relaypath_subtree_range.Goals as goal
 

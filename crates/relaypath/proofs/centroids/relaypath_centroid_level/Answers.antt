@@ -1,7 +1,6 @@
 -- `centroids::relaypath_centroid_level` meets its contract: it hands over the entry that the read of its name answers.
 use Prim.Native.Nat.{ℕ, ◌<◌, ◌^◌}
 use native.Mathlib.Omega.{arith}
-use borrow.Author.Rules.{rules}
 use mathlib.Core.Path.{sym, ◌∙◌, subst}
 use Rattle.sums.specs.Sum.{at}
 use Rattle.centroid.proofs.Reading.{read_is}

@@ -1,5 +1,4 @@
 -- `handed::hand_entry` meets its contract: the entry is a 32-bit number.
-use borrow.Author.Rules.{rules}
 use native.Mathlib.Omega.{arith}
 use Rattle.relaypath.proofs.handed.hand_entry.Goals as goal
 

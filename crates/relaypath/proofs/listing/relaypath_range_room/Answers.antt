@@ -1,5 +1,4 @@
 -- `listing::relaypath_range_room` meets its contract: it hands over what the call of its name answers.
-use borrow.Author.Rules.{rules}
 use Rattle.relaypath.proofs.Handing.{handed_as}
 use Rattle.relaypath.proofs.listing.relaypath_range_room.Goals as goal
 

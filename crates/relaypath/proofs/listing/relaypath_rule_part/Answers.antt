@@ -1,9 +1,7 @@
 -- `listing::relaypath_rule_part` meets its contract: the range names no part, or the direction none, or the part stands where it says.
-use borrow.Author.Rules.{rules}
 use native.Mathlib.Omega.{arith}
 use mathlib.Core.Path.{sym, ◌∙◌}
 use lib.ListN.{length}
-use borrow.Author.Tests.{not-true, not-false}
 use Rattle.ranges.proofs.Parted.{named_means}
 use Rattle.relaypath.proofs.Placed.{named_forward, named_reversed, named_none, direction_none}
 use Rattle.relaypath.proofs.listing.relaypath_rule_part.Goals as goal

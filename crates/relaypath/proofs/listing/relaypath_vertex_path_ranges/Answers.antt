@@ -1,5 +1,4 @@
 -- `listing::relaypath_vertex_path_ranges` meets its contract: it hands over what the call of its name answers, with the list that it left.
-use borrow.Author.Rules.{rules}
 use Rattle.relaypath.proofs.Handing.{list_as}
 use Rattle.relaypath.proofs.listing.relaypath_vertex_path_ranges.Goals as goal
 

@@ -1,22 +1,17 @@
 -- `sizes::re_rooted_size` meets its contract: each return says how far the tests passed.
-use borrow.Author.Rules.{rules}
-use borrow.Author.Tests.{not-true, not-false}
 use native.Mathlib.Omega.{arith}
-use mathlib.Core.Path.{◌≡◌, sym, ap, ◌∙◌}
+use mathlib.Core.Path.{sym, ap, ◌∙◌}
 use mathlib.Core.List.{[]}
 use mir.Facts.{Fits-widen}
 use lib.ListN.{length}
-use Rattle.tables.specs.Tables.{Six, six}
-use Prim.Native.Nat.{ℕ, ◌-◌}
+use Rattle.tables.specs.Tables.{six}
+use Prim.Native.Nat.{◌-◌}
 use Rattle.numbering.specs.Log.{log2}
-use Rattle.climb.specs.Inner.{Seat}
-use Rattle.queries.specs.Queries.{ancestor_in, without_child}
-use Rattle.queries.specs.Inner.{rise_from}
+use Rattle.queries.specs.Queries.{without_child}
 use Rattle.climb.proofs.Reaching.{stood_seat}
 use Rattle.climb.proofs.Soundness.{stood_placed}
 use Rattle.queries.proofs.Rising.{rise-from, found_below}
 use Rattle.sizes.proofs.Counting.{size_unsized, size-before, size_after, size_shallow, size_inside, left_refused}
-use Rattle.climb.specs.Sound.{stand_on, On}
 use Rattle.sizes.proofs.subtrees.re_rooted_size.Goals as goal
 
 pub overflow_cast-count : goal.overflow_cast-count

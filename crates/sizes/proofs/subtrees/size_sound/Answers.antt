@@ -1,5 +1,4 @@
 -- `sizes::size_sound` meets its contract.
-use borrow.Author.Rules.{rules}
 use borrow.Author.Tests.{le-leb, lt-leb}
 use Rattle.sizes.proofs.subtrees.size_sound.Goals as goal
 

@@ -1,13 +1,12 @@
 -- `sizes::subtree_range` meets its contract: it is refused where v or its size is not sound.
-use borrow.Author.Rules.{rules}
 use borrow.Author.Tests.{not-true, not-false}
 use mathlib.Core.Path.{sym, ◌∙◌}
 use mathlib.Core.List.{[], ◌∷◌}
-use Rattle.tables.specs.Tables.{Six, six}
+use Rattle.tables.specs.Tables.{six}
 use native.Mathlib.Omega.{arith}
 use mir.Facts.{Fits-widen}
 use Rattle.answers.specs.declared.answer.Interval.TheVariants.{Refused}
-use Rattle.climb.proofs.Passed.{Passed, verdict_passed, verdict_refused, answered, lengths, first_below}
+use Rattle.climb.proofs.Passed.{verdict_passed, verdict_refused, answered, lengths, first_below}
 use Rattle.climb.proofs.Soundness.{stood_placed}
 use Rattle.climb.proofs.Reaching.{stood_on, stood_off}
 use Rattle.sizes.proofs.Counting.{range_off, range_unsized, range_on}

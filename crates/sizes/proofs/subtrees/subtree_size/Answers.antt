@@ -1,12 +1,11 @@
 -- `sizes::subtree_size` meets its contract: both vertices must be sound; a vertex that is the root has them all.
-use borrow.Author.Rules.{rules}
 use borrow.Author.Tests.{not-true, not-false}
 use mathlib.Core.Path.{sym, ◌∙◌}
 use mathlib.Core.List.{[], ◌∷◌}
-use Rattle.tables.specs.Tables.{Six, six}
+use Rattle.tables.specs.Tables.{six}
 use native.Mathlib.Omega.{arith}
 use Rattle.answers.specs.declared.answer.Answer.TheVariants.{Refused}
-use Rattle.climb.proofs.Passed.{Passed, verdict_passed, verdict_refused, answered, lengths, first_below, others}
+use Rattle.climb.proofs.Passed.{verdict_passed, verdict_refused, answered, lengths, first_below, others}
 use Rattle.climb.proofs.Soundness.{stood_vertex, stood_again}
 use Rattle.climb.proofs.Reaching.{stood_on, stood_off}
 use Rattle.sizes.proofs.Counting.{size_off_r, size_off_v, size_whole, size_other}

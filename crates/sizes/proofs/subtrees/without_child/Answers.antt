@@ -1,6 +1,4 @@
 -- `sizes::without_child` meets its contract: the size is tested, and taken off.
-use borrow.Author.Rules.{rules}
-use borrow.Author.Tests.{not-true, not-false}
 use native.Mathlib.Omega.{arith}
 use mathlib.Core.Path.{sym, ◌∙◌}
 use mir.Facts.{Fits-widen}

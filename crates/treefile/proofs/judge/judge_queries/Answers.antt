@@ -1,7 +1,5 @@
-use borrow.Author.Rules.{rules}
 use native.Mathlib.Omega.{arith}
 use mathlib.Core.Path.{sym, ◌∙◌}
-use borrow.Author.Tests.{not-true, not-false}
 use Rattle.treefile.specs.File.{numbers, max_queries}
 use Rattle.treefile.specs.Sections.{bytes_in}
 use Rattle.treefile.proofs.Asking.{asked_none, asked_many, asked_bad, asked_good}

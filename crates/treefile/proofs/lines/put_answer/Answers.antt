@@ -1,4 +1,3 @@
-use borrow.Author.Rules.{rules}
 use mathlib.Core.Path.{sym, ap, ◌∙◌}
 use Rattle.treefile.proofs.Writing.{puts_as, room_as}
 use Rattle.treefile.specs.Report.{decimal, number_text}

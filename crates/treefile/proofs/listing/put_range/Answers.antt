@@ -1,4 +1,3 @@
-use borrow.Author.Rules.{rules}
 use mathlib.Core.Path.{sym, ap}
 use Rattle.treefile.proofs.Writing.{puts_then, puts_as, room_first, room_then, room_as}
 use mathlib.Core.List.{[], ◌∷◌}

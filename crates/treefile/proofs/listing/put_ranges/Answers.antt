@@ -1,10 +1,9 @@
 use native.Mathlib.Omega.{arith}
 use mathlib.Core.Path.{ap, ◌≡◌}
 use Rattle.treefile.proofs.Writing.{puts_as, puts-length, puts_none}
-use Prim.Native.Nat.{ℕ, ◌≤◌, ◌-◌}
+use Prim.Native.Nat.{ℕ}
 use Rattle.treefile.specs.Report.{ranges_text}
 use Rattle.ranges.specs.Flat.{ranges_in}
-use Rattle.treefile.specs.Writing.{Puts}
 use Rattle.treefile.proofs.Flat.{ranges_room, ranges_more}
 use Rattle.treefile.proofs.listing.put_ranges.Goals as goal
 

@@ -1,11 +1,7 @@
-use native.Mathlib.Omega.{arith}
-use mathlib.Core.Path.{ap, ◌≡◌}
-use Rattle.treefile.proofs.Writing.{puts_as, puts-length, puts_none}
-use Prim.Native.Nat.{ℕ, ◌≤◌, ◌-◌}
+use Prim.Native.Nat.{◌≤◌, ◌-◌}
 use Rattle.treefile.specs.Report.{ranges_text}
 use Rattle.ranges.specs.Flat.{ranges_in}
 use Rattle.treefile.specs.Writing.{Puts}
-use Rattle.treefile.proofs.Flat.{ranges_room, ranges_more}
 use Rattle.treefile.proofs.listing.put_ranges.Given as goal
 
 abbrev pub invariant-loop-i : goal.invariant-loop-i

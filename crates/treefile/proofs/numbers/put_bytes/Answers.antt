@@ -1,8 +1,5 @@
 use native.Mathlib.Omega.{arith}
 use Rattle.treefile.proofs.Writing.{puts-length, bytes_none, bytes_more, bytes-all}
-use Prim.Native.Nat.{◌≤◌, ◌-◌, ◌+◌}
-use lib.ListN.{length, take}
-use Rattle.treefile.specs.Writing.{Puts}
 use Rattle.treefile.proofs.numbers.put_bytes.Goals as goal
 
 pub loop-i-init : goal.loop-i-init

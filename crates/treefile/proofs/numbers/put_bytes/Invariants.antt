@@ -1,5 +1,3 @@
-use native.Mathlib.Omega.{arith}
-use Rattle.treefile.proofs.Writing.{puts-length, bytes_none, bytes_more, bytes-all}
 use Prim.Native.Nat.{◌≤◌, ◌-◌, ◌+◌}
 use lib.ListN.{length, take}
 use Rattle.treefile.specs.Writing.{Puts}

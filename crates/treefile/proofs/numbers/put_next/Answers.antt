@@ -1,4 +1,3 @@
-use borrow.Author.Rules.{rules}
 use Rattle.treefile.proofs.Writing.{puts_then}
 use Rattle.treefile.proofs.numbers.put_next.Goals as goal
 

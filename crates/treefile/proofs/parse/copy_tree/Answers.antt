@@ -1,4 +1,3 @@
-use borrow.Author.Rules.{rules}
 use native.Mathlib.Omega.{arith}
 use Rattle.treefile.specs.Sections.{bytes_in}
 use Rattle.treefile.proofs.FileNumbers.{numbers_few}

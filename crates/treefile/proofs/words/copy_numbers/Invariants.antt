@@ -1,8 +1,7 @@
-use native.Mathlib.Omega.{arith}
 use Prim.Native.Nat.{◌-◌}
 use Rattle.treefile.specs.File.{numbers}
 use Rattle.treefile.specs.Sections.{bytes_in}
-use Rattle.treefile.proofs.FileNumbers.{Copied, copied_none, copied_more, copied_all, numbers_few, number_small}
+use Rattle.treefile.proofs.FileNumbers.{Copied}
 use Rattle.treefile.proofs.words.copy_numbers.Given as goal
 
 abbrev pub invariant-loop-i : goal.invariant-loop-i

@@ -1,4 +1,3 @@
-use borrow.Author.Rules.{rules}
 use native.Mathlib.Omega.{arith}
 use mir.Facts.{Fits-widen}
 use Prim.Native.Nat.{◌+◌}

@@ -3,7 +3,6 @@ use Rattle.treereport.specs.Reports.{report_room}
 use borrow.Author.Tests.{not-true, not-false}
 use lib.Seq.{length-take-le}
 use mathlib.Core.Path.{refl, sym}
-use borrow.Author.Rules.{rules}
 use Rattle.treereport.proofs.report.report.Goals as goal
 
 pub returns-then-out-lt-REPORT_ROOM : goal.returns-then-out-lt-REPORT_ROOM

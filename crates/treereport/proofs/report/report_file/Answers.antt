@@ -3,7 +3,6 @@ use Rattle.treereport.proofs.Building.{few_vertices, tree_asks}
 use lib.Seq.{length-take-le}
 use mathlib.Core.Path.{refl, sym}
 use native.Mathlib.Omega.{arith}
-use borrow.Author.Rules.{rules}
 use Rattle.treereport.proofs.report.report_file.Goals as goal
 
 pub slice_bounds-parent-end : goal.slice_bounds-parent-end

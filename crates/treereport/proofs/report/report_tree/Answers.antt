@@ -1,6 +1,5 @@
 use Rattle.treereport.proofs.Telling.{line_room, told_refused, lines_ask, told_built}
 use native.Mathlib.Omega.{arith}
-use borrow.Author.Rules.{rules}
 use Rattle.treereport.proofs.report.report_tree.Goals as goal
 
 pub put_tree_line-next-requires : goal.put_tree_line-next-requires
