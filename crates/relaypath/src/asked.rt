@@ -6,8 +6,7 @@ ghost use Rattle.relaypath.specs.Handed.{Handed, HandedEnds};
 use crate::handed::{hand, hand_ends};
 
 // The number of vertices.
-#[unsafe(no_mangle)]
-pub extern "C" fn relaypath_vertex_count(
+pub fn relaypath_vertex_count(
     parent: &[u32],
     depth: &[u32],
     head: &[u32],
@@ -23,8 +22,7 @@ pub extern "C" fn relaypath_vertex_count(
 }
 
 // The root: the first vertex of the order.
-#[unsafe(no_mangle)]
-pub extern "C" fn relaypath_root(
+pub fn relaypath_root(
     parent: &[u32],
     depth: &[u32],
     head: &[u32],
@@ -40,8 +38,7 @@ pub extern "C" fn relaypath_root(
 }
 
 // The depth of v below the root.
-#[unsafe(no_mangle)]
-pub extern "C" fn relaypath_depth(
+pub fn relaypath_depth(
     parent: &[u32],
     depth: &[u32],
     head: &[u32],
@@ -58,8 +55,7 @@ pub extern "C" fn relaypath_depth(
 }
 
 // The number of v.
-#[unsafe(no_mangle)]
-pub extern "C" fn relaypath_vertex_id(
+pub fn relaypath_vertex_id(
     parent: &[u32],
     depth: &[u32],
     head: &[u32],
@@ -76,8 +72,7 @@ pub extern "C" fn relaypath_vertex_id(
 }
 
 // The number of edges between u and v.
-#[unsafe(no_mangle)]
-pub extern "C" fn relaypath_distance(
+pub fn relaypath_distance(
     parent: &[u32],
     depth: &[u32],
     head: &[u32],
@@ -95,8 +90,7 @@ pub extern "C" fn relaypath_distance(
 }
 
 // The lowest common ancestor of u and v as if r were the root.
-#[unsafe(no_mangle)]
-pub extern "C" fn relaypath_lca(
+pub fn relaypath_lca(
     parent: &[u32],
     depth: &[u32],
     head: &[u32],
@@ -115,8 +109,7 @@ pub extern "C" fn relaypath_lca(
 }
 
 // The vertex k steps above v.
-#[unsafe(no_mangle)]
-pub extern "C" fn relaypath_kth_ancestor(
+pub fn relaypath_kth_ancestor(
     parent: &[u32],
     depth: &[u32],
     head: &[u32],
@@ -134,8 +127,7 @@ pub extern "C" fn relaypath_kth_ancestor(
 }
 
 // The vertex k steps from u on the way to v.
-#[unsafe(no_mangle)]
-pub extern "C" fn relaypath_jump(
+pub fn relaypath_jump(
     parent: &[u32],
     depth: &[u32],
     head: &[u32],
@@ -154,8 +146,7 @@ pub extern "C" fn relaypath_jump(
 }
 
 // The number of vertices of v's subtree as if r were the root.
-#[unsafe(no_mangle)]
-pub extern "C" fn relaypath_subtree_size(
+pub fn relaypath_subtree_size(
     parent: &[u32],
     depth: &[u32],
     head: &[u32],
@@ -173,8 +164,7 @@ pub extern "C" fn relaypath_subtree_size(
 }
 
 // The numbers of v's subtree, from `start` up to `end`, the end excluded.
-#[unsafe(no_mangle)]
-pub extern "C" fn relaypath_subtree_range(
+pub fn relaypath_subtree_range(
     parent: &[u32],
     depth: &[u32],
     head: &[u32],

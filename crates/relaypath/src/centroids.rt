@@ -8,8 +8,7 @@ use crate::handed::hand_entry;
 // The centroid decomposition of the tree of offsets and targets, the first search starting at 0: the centroid above each vertex and its
 // level. Answers 0, else the code of the first test that is not passed, and then writes no table. Work needs 8n + E entries, which are zero
 // afterwards.
-#[unsafe(no_mangle)]
-pub extern "C" fn relaypath_try_centroid_decomposition(
+pub fn relaypath_try_centroid_decomposition(
     offsets: &[u32],
     targets: &[u32],
     parent: &mut [u32],
@@ -22,13 +21,7 @@ pub extern "C" fn relaypath_try_centroid_decomposition(
 }
 
 // The centroid above v.
-#[unsafe(no_mangle)]
-pub extern "C" fn relaypath_centroid_parent(
-    parent: &[u32],
-    level: &[u32],
-    v: usize,
-    answer: &mut u32,
-) -> u32
+pub fn relaypath_centroid_parent(parent: &[u32], level: &[u32], v: usize, answer: &mut u32) -> u32
     ensures { Handed (read_of parent.now level.now v) answer.old answer.new result }
 {
     let found = centroid::tables::centroid_parent(parent, level, v);
@@ -36,13 +29,7 @@ pub extern "C" fn relaypath_centroid_parent(
 }
 
 // The level of v.
-#[unsafe(no_mangle)]
-pub extern "C" fn relaypath_centroid_level(
-    parent: &[u32],
-    level: &[u32],
-    v: usize,
-    answer: &mut u32,
-) -> u32
+pub fn relaypath_centroid_level(parent: &[u32], level: &[u32], v: usize, answer: &mut u32) -> u32
     ensures { Handed (read_of level.now parent.now v) answer.old answer.new result }
 {
     let found = centroid::tables::centroid_level(parent, level, v);
@@ -52,8 +39,7 @@ pub extern "C" fn relaypath_centroid_level(
 // The components of the decomposition, for c = 0 to n - 1: c's component breadth first in list order, each vertex with its distance from c
 // and its branch. The list of c stands from starts[c] up to starts[c + 1]. Answers 0, else the code of the first test that is not passed,
 // and then writes no list. Work needs 8n + E entries, which are zero afterwards.
-#[unsafe(no_mangle)]
-pub extern "C" fn relaypath_component_lists(
+pub fn relaypath_component_lists(
     offsets: &[u32],
     targets: &[u32],
     vertices: &mut [u32],

@@ -1,5 +1,5 @@
-// The library that C and Rust link. Each call stands here under its C name and is one call of the crate that proves it; include/relaypath.h
-// declares them for C. A slice is a pointer and a length there.
+// What C and Rust link, as a library: each call is one call of the crate that proves it, under its C name, with its answer in the form that C takes.
+// The crate relaypath_c exports them.
 #![tactic(auto)]
 
 pub mod asked;
@@ -13,8 +13,7 @@ ghost use Rattle.hld.specs.Build.{Builds};
 
 // Judges the graph of offsets and targets, seen from root: 0 for a tree, else the code of the first test that is not passed. Work needs
 // 8n + E entries, which are zero afterwards.
-#[unsafe(no_mangle)]
-pub extern "C" fn relaypath_validate_tree(
+pub fn relaypath_validate_tree(
     offsets: &[u32],
     targets: &[u32],
     root: usize,
@@ -28,8 +27,7 @@ pub extern "C" fn relaypath_validate_tree(
 // The heavy-light decomposition of the tree of offsets and targets from root: parent, depth, head, id, order and size, each a table of n
 // entries. Answers 0, else the code of the first test that is not passed, and then writes no table. Work needs 8n + E entries, which are zero
 // afterwards.
-#[unsafe(no_mangle)]
-pub extern "C" fn relaypath_try_hld(
+pub fn relaypath_try_hld(
     offsets: &[u32],
     targets: &[u32],
     root: usize,

@@ -8,8 +8,7 @@ ghost use Rattle.relaypath.specs.Listing.{HandedList, PartNamed};
 use crate::handed::{hand, hand_count};
 
 // The vertices of the path from u to v as ranges, three numbers each; `count` gets how many. A refusal leaves both as they were.
-#[unsafe(no_mangle)]
-pub extern "C" fn relaypath_vertex_path_ranges(
+pub fn relaypath_vertex_path_ranges(
     parent: &[u32],
     depth: &[u32],
     head: &[u32],
@@ -30,8 +29,7 @@ pub extern "C" fn relaypath_vertex_path_ranges(
 }
 
 // The same for the edges of the path, each by its child.
-#[unsafe(no_mangle)]
-pub extern "C" fn relaypath_edge_path_ranges(
+pub fn relaypath_edge_path_ranges(
     parent: &[u32],
     depth: &[u32],
     head: &[u32],
@@ -52,8 +50,7 @@ pub extern "C" fn relaypath_edge_path_ranges(
 }
 
 // The same for vertices and edges in turn, in the doubled numbers.
-#[unsafe(no_mangle)]
-pub extern "C" fn relaypath_vertex_edge_path_ranges(
+pub fn relaypath_vertex_edge_path_ranges(
     parent: &[u32],
     depth: &[u32],
     head: &[u32],
@@ -74,8 +71,7 @@ pub extern "C" fn relaypath_vertex_edge_path_ranges(
 }
 
 // How many ranges are enough for every path among n vertices.
-#[unsafe(no_mangle)]
-pub extern "C" fn relaypath_range_room(n: usize, answer: &mut usize) -> u32
+pub fn relaypath_range_room(n: usize, answer: &mut usize) -> u32
     ensures { Handed (range_room n) answer.old answer.new result }
 {
     let found = ranges::room::range_room(n);
@@ -84,8 +80,7 @@ pub extern "C" fn relaypath_range_room(n: usize, answer: &mut usize) -> u32
 
 // The length of the part that a range names, of the first store for direction 0, of the second for 1; `place` gets where in its store it
 // begins. An empty part begins at 0.
-#[unsafe(no_mangle)]
-pub extern "C" fn relaypath_rule_part(
+pub fn relaypath_rule_part(
     first: &[u32],
     second: &[u32],
     start: usize,

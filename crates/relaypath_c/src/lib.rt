@@ -1,0 +1,48 @@
+// The library that C and Rust link: each call of the crate relaypath under its C name, with the same contract. include/relaypath.h declares them
+// for C. A slice is a pointer and a length there.
+#![tactic(auto)]
+
+pub mod asked;
+pub mod centroids;
+pub mod listing;
+
+ghost use Rattle.graph.specs.Validation.{Validates};
+ghost use Rattle.tables.specs.Tables.{six};
+ghost use Rattle.hld.specs.Build.{Builds};
+
+// Judges the graph of offsets and targets, seen from root: 0 for a tree, else the code of the first test that is not passed. Work needs
+// 8n + E entries, which are zero afterwards.
+#[unsafe(no_mangle)]
+pub extern "C" fn relaypath_validate_tree(
+    offsets: &[u32],
+    targets: &[u32],
+    root: usize,
+    work: &mut [u32],
+) -> u32
+    ensures { Validates offsets.now targets.now root work.old work.new result }
+{
+    relaypath::relaypath_validate_tree(offsets, targets, root, work)
+}
+
+// The heavy-light decomposition of the tree of offsets and targets from root: parent, depth, head, id, order and size, each a table of n
+// entries. Answers 0, else the code of the first test that is not passed, and then writes no table. Work needs 8n + E entries, which are zero
+// afterwards.
+#[unsafe(no_mangle)]
+pub extern "C" fn relaypath_try_hld(
+    offsets: &[u32],
+    targets: &[u32],
+    root: usize,
+    parent: &mut [u32],
+    depth: &mut [u32],
+    head: &mut [u32],
+    id: &mut [u32],
+    order: &mut [u32],
+    size: &mut [u32],
+    work: &mut [u32],
+) -> u32
+    ensures { Builds offsets.now targets.now root (six parent.old depth.old head.old id.old order.old size.old) work.old (six parent.new depth.new head.new id.new order.new size.new) work.new result }
+{
+    relaypath::relaypath_try_hld(
+        offsets, targets, root, parent, depth, head, id, order, size, work,
+    )
+}
