@@ -6,7 +6,7 @@ use Rattle.paths.specs.Walk.{Stands, Simple}
 use Rattle.numbering.specs.Log.{log2}
 use Rattle.answers.specs.Limits.{max_vertices}
 use Rattle.tables.specs.Tables.{Six}
-use Rattle.queries.specs.Queries.{vertex_count, root_of, depth_of, vertex_id, subtree_range, kth_ancestor, subtree_size, distance as distance_of, lca as lca_of, jump as jump_of}
+use Rattle.queries.specs.Queries.{vertex_count, root_of, depth_of, vertex_id, subtree_range, kth_ancestor as ancestor_of, subtree_size, distance as distance_of, lca as lca_of, jump as jump_of}
 use Rattle.answers.specs.declared.answer.Refusal.TheVariants.{BadTable}
 use Rattle.answers.specs.declared.answer.Answer.{Answer}
 use Rattle.answers.specs.declared.answer.Answer.TheVariants.{Is, TooFar}
@@ -41,10 +41,10 @@ pub record Answers (caller : Caller) (n : ℕ) (A : ℕ → List ℕ) (root : �
   pub subtree_range : {v : ℕ} → v < n → caller.interval (subtree_range t v) (at t.id v) (at t.id v + at t.size v)
   -- "`distance`, `kth_ancestor`, `jump`: by the simple path."
   pub distance : {u v : ℕ} {P : List ℕ} → Simple n (Stands A) u v P → caller.number (distance_of t u v) (length P)
-  pub kth_ancestor : (k : ℕ) {v : ℕ} {P : List ℕ} → Simple n (Stands A) v root P → k ≤ length P → caller.number (kth_ancestor t v k) (at (v ∷ P) k)
+  pub kth_ancestor : (k : ℕ) {v : ℕ} {P : List ℕ} → Simple n (Stands A) v root P → k ≤ length P → caller.number (ancestor_of t v k) (at (v ∷ P) k)
   pub jump : (k : ℕ) {u v : ℕ} {P : List ℕ} → Simple n (Stands A) u v P → k ≤ length P → caller.number (jump_of t u v k) (at (u ∷ P) k)
   -- "`kth_ancestor` is refused exactly if no k-th ancestor exists; `jump` exactly if k exceeds the distance."
-  pub no_ancestor : (k : ℕ) {v : ℕ} {P : List ℕ} → Simple n (Stands A) v root P → length P < k → caller.too_far (kth_ancestor t v k)
+  pub no_ancestor : (k : ℕ) {v : ℕ} {P : List ℕ} → Simple n (Stands A) v root P → length P < k → caller.too_far (ancestor_of t v k)
   pub no_jump : (k : ℕ) {u v : ℕ} {P : List ℕ} → Simple n (Stands A) u v P → length P < k → caller.too_far (jump_of t u v k)
   -- "`lca(r,u,v)` and `subtree_size(r,v)`: as if r were the root."
   pub lca :
