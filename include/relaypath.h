@@ -1,6 +1,6 @@
 /*
  * relaypath: proved calls on relay trees, for C99 and for what can call C.
- * Link with librelaypath.a, which `rt staticlib relaypath` writes.
+ * Link with librelaypath.a, which `tests/archive` writes.
  *
  * A graph of n vertices is lent as two arrays of 32-bit numbers: n + 1 offsets
  * and E targets. The list of vertex u is the targets from offsets[u] up to

@@ -3,7 +3,7 @@
  *
  *   cc -std=c99 -Iinclude examples/c/paths.c target/staticlib/librelaypath.a -o target/paths && target/paths
  *
- * is run at the top of the repository, after `rt staticlib relaypath`.
+ * is run at the top of the repository, after `tests/archive`.
  */
 #include <relaypath.h>
 #include <stdio.h>

@@ -16,7 +16,7 @@ fn main() {
     println!("cargo:rerun-if-changed={}", archive.display());
     let Ok(found) = archive.canonicalize() else {
         eprintln!("There is no {}.", archive.display());
-        eprintln!("Run `rt staticlib relaypath` at the top of the repository, or name the archive's folder in RELAYPATH_LIB.");
+        eprintln!("Run `tests/archive` at the top of the repository, or name the archive's folder in RELAYPATH_LIB.");
         exit(1);
     };
     let place = found.parent().expect("a file stands in a folder");

@@ -2,7 +2,7 @@
 //!
 //!     cargo --offline run --quiet --example paths
 //!
-//! is run in rust/relaypath, after `rt staticlib relaypath` at the top of the repository.
+//! is run in rust/relaypath, after `tests/archive` at the top of the repository.
 use relaypath::{Direction, PathRange, Refusal, Tables};
 
 // The lists 0:4,1,5; 1:0,2,3; 2:1; 3:1,6; 4:0; 5:0; 6:3.

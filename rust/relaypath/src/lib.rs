@@ -5,7 +5,7 @@
 //!
 //! What the numbers say is never trusted. Every call ends without a panic on any contents and answers a [`Refusal`] where a test is not passed.
 //!
-//! The calls are in librelaypath.a, which `rt staticlib relaypath` writes at the top of the repository. The build looks for it in
+//! The calls are in librelaypath.a, which `tests/archive` writes at the top of the repository. The build looks for it in
 //! target/staticlib there, or in the folder that `RELAYPATH_LIB` names. It is for x86-64 Linux.
 //!
 //! ```
