@@ -90,7 +90,15 @@ fn part(tables: &[u32], from: usize, n: usize) -> &[u32] {
 }
 
 // Asks the six tables of n vertices that stand one after the other in the list.
-pub fn ask(rt: &impl Print, n: usize, tables: &[u32], kind: u32, u: usize, v: usize, w: usize) -> io::Result<()> {
+pub fn ask(
+    rt: &impl Print,
+    n: usize,
+    tables: &[u32],
+    kind: u32,
+    u: usize,
+    v: usize,
+    w: usize,
+) -> io::Result<()> {
     if 8 < n {
         return Ok(());
     }

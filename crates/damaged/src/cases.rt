@@ -104,7 +104,14 @@ fn read_tables(text: &[u8], at: usize, tables: &mut [u32]) -> usize {
 }
 
 // Asks the query of this line that stands at this position, up to the line's end.
-fn run_query(rt: &impl Print, text: &[u8], line: usize, at: usize, n: usize, tables: &[u32]) -> io::Result<()> {
+fn run_query(
+    rt: &impl Print,
+    text: &[u8],
+    line: usize,
+    at: usize,
+    n: usize,
+    tables: &[u32],
+) -> io::Result<()> {
     let found = form(
         text,
         at,

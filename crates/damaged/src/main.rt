@@ -11,6 +11,7 @@
 //     NUMBERS    each behind a space, or a comma and a space; n of each table, and n at most 8
 //     a number   up to nine digits, or `most` or `none`, which are 4,294,967,295
 #![tactic(auto)]
+
 mod ask;
 mod cases;
 

@@ -1,7 +1,6 @@
 -- What is said of the answers in Rattle holds in C: one step from what a call answers to what it hands over.
 use Prim.Native.Nat.{ℕ, ◌*◌, ◌≤◌}
-use native.Mathlib.Omega.{arith}
-use mathlib.Core.Path.{◌≡◌, refl, sym, ap, ◌∙◌}
+use mathlib.Core.Path.{◌≡◌, refl, ap, ◌∙◌}
 use mathlib.Core.Logic.{◌≢◌}
 use mathlib.Core.List.{List, ◌++◌}
 use lib.ListN.{length, drop}
@@ -20,7 +19,7 @@ use Rattle.tables.specs.Tables.{Six}
 use Rattle.ranges.specs.Flat.{stride, flat}
 use Rattle.ranges.specs.Calls.{Answered, listed, room_answer, room_list}
 use Rattle.ranges.specs.declared.kinds.PathRange.{PathRange}
-use Rattle.relaypath.specs.Handed.{first_or, rest_of, Handed, HandedEnds, HandedCount}
+use Rattle.relaypath.specs.Handed.{first_or, rest_of}
 use Rattle.relaypath.specs.Listing.{HandedList}
 use Rattle.demands.specs.Answers.{Caller, in_rattle, Answers}
 use Rattle.demands.specs.InC.{in_c, Untouched, DemandsInC}

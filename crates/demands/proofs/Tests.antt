@@ -1,7 +1,7 @@
 -- The codes of queries, of ranges and of range room are those of the first test that is not passed.
-use Prim.Native.Nat.{ℕ, zero, suc, ◌-◌, ◌+◌, ◌*◌, ◌≤◌, ◌<◌}
+use Prim.Native.Nat.{ℕ, zero, suc, ◌-◌, ◌+◌, ◌*◌, ◌≤◌}
 use native.Mathlib.Omega.{arith}
-use mathlib.Core.Path.{◌≡◌, refl, sym, ap, ◌∙◌}
+use mathlib.Core.Path.{◌≡◌, refl, sym, ◌∙◌}
 use mathlib.Core.Logic.{inl, inr, ◌≢◌}
 use mathlib.Core.Bool.{Bool, true, false, true≢false}
 use mathlib.Core.List.{List, [], ◌∷◌}
@@ -14,13 +14,12 @@ use Rattle.numbering.specs.Log.{log2}
 use Rattle.answers.specs.Limits.{max_vertices, no_parent}
 use Rattle.answers.specs.Codes.{bad_size, no_room, bad_vertex, bad_table}
 use Rattle.answers.specs.Choice.{pick, both}
-use Rattle.answers.specs.Asked.{lengths?, sized?, vertices?, asked_of}
+use Rattle.answers.specs.Asked.{sized?, vertices?, asked_of}
 use Rattle.answers.specs.Answers.{answer_code, interval_code, listed_code}
 use Rattle.answers.specs.declared.answer.Refusal.{Refusal}
 use Rattle.answers.specs.declared.answer.Refusal.TheVariants.{BadSize, NoRoom, BadVertex, BadTable}
 use Rattle.answers.specs.declared.answer.Answer.{Answer}
 use Rattle.answers.specs.declared.answer.Answer.TheVariants.{Is, TooFar, Refused}
-use Rattle.answers.specs.declared.answer.Interval.{Interval}
 use Rattle.answers.specs.declared.answer.Interval.TheVariants.{Between, Refused as NoInterval}
 use Rattle.answers.specs.declared.answer.Listed.{Listed}
 use Rattle.answers.specs.declared.answer.Listed.TheVariants.{Count, Refused as NotListed}

@@ -10,6 +10,7 @@
 //     path NUMBER targets NUMBER                 the path of so many vertices, with its first so many targets, which go on past its end
 //     vertices NUMBER list NUMBER times NUMBER   so many vertices, of which only the first has a list: a vertex, so many times
 #![tactic(auto)]
+
 mod run;
 mod shapes;
 
@@ -50,11 +51,5 @@ fn main(rt: HostRuntime) -> io::Result<()> {
     let mut targets = [0u32; MAX_ENTRIES];
     let mut work = [0u32; MAX_WORK];
     let count = read_sample(&mut rt.stdin(), &mut buffer)?;
-    run_all(
-        &rt,
-        &buffer[..count],
-        &mut offsets,
-        &mut targets,
-        &mut work,
-    )
+    run_all(&rt, &buffer[..count], &mut offsets, &mut targets, &mut work)
 }

@@ -2,12 +2,13 @@
 // standard input: 16-bit numbers, the low byte first. The first is the count of cases; each case is n, E, the root, the original's code,
 // n + 1 offsets and E targets.
 #![tactic(auto)]
+
 ghost use Rattle.std.specs.Prelude.{◌≤◌};
 
-use std::io;
-use std::io::Print;
 use answers::codes::{BAD_SIZE, DISCONNECTED, DONE, HAS_CYCLE};
 use sample::{holds, number, print_count, print_malformed, read_numbers, read_sample};
+use std::io;
+use std::io::Print;
 use std::num::{wrapping_add_u64, wrapping_add_usize};
 use validate::validate_tree;
 

@@ -2,9 +2,10 @@
 // sample stands on standard input: each case is the length of the file in bytes, the file, the length of the report in bytes and the report; one
 // byte more follows a text of odd length. Files of its own come first: 01's examples without a mark, as far as they fit into a file.
 #![tactic(auto)]
+
+use sample::{holds, number, print_count, print_malformed, read_sample};
 use std::io;
 use std::io::Print;
-use sample::{holds, number, print_count, print_malformed, read_sample};
 use std::num::{wrapping_add_u64, wrapping_add_usize};
 use treereport::report::report;
 

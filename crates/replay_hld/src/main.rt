@@ -2,14 +2,15 @@
 // standard input: each case is n, the root, n + 1 offsets, 2(n - 1) targets, and n entries of each of the tables parent, depth, head, id, order
 // and size, where 65535 stands for no parent.
 #![tactic(auto)]
+
 ghost use Rattle.std.specs.Prelude.{◌≤◌};
 
-use std::io;
-use std::io::Print;
 use answers::codes::DONE;
 use answers::limits::NO_PARENT;
 use hld::build::try_hld;
 use sample::{holds, number, print_count, print_malformed, read_numbers, read_sample};
+use std::io;
+use std::io::Print;
 use std::num::{wrapping_add_u64, wrapping_add_usize};
 
 // One byte more than the longest sample that is read.

@@ -4,6 +4,7 @@
 // A failed read writes nothing to standard output, a failed write stops it short, and each says so on standard error. The exit status is 0, but where
 // that cannot be said either.
 #![tactic(auto)]
+
 ghost use Rattle.std.specs.Prelude.{length};
 ghost use Rattle.treepaths.specs.Input.{InputIn};
 
@@ -46,12 +47,16 @@ fn read_input<R: Read>(reader: &mut R, buffer: &mut [u8]) -> Input
 fn main(rt: HostRuntime) -> io::Result<()> {
     let mut input = [0u8; MAX_INPUT];
     let Input::Bytes(count) = read_input(&mut rt.stdin(), &mut input) else {
-        return rt.stderr().write_all(b"treepaths: cannot read standard input\n");
+        return rt
+            .stderr()
+            .write_all(b"treepaths: cannot read standard input\n");
     };
     let mut out = [0u8; MAX_REPORT];
     let length = report(&input[..count], &mut out);
     let Ok(()) = rt.write_all(&out[..length]) else {
-        return rt.stderr().write_all(b"treepaths: cannot write the report\n");
+        return rt
+            .stderr()
+            .write_all(b"treepaths: cannot write the report\n");
     };
     Ok(())
 }

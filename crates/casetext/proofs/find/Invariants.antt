@@ -1,5 +1,5 @@
 -- The position is never before the first, and goes no further than the text; what is left of the text falls.
-use Rattle.std.proofs.Common.{◌-◌, ◌≤◌, length, rules}
+use Rattle.std.proofs.Common.{◌-◌, ◌≤◌, length}
 use Rattle.casetext.proofs.find.Given as goal
 
 abbrev pub invariant-loop-i : goal.invariant-loop-i

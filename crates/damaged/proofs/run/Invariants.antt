@@ -1,5 +1,5 @@
 -- Nothing is to be known of the tables' position; what is left of the text falls.
-use Rattle.std.proofs.Common.{◌-◌, length, rules}
+use Rattle.std.proofs.Common.{◌-◌, length}
 use Rattle.damaged.proofs.run.Given as goal
 
 abbrev pub invariant-loop-at : goal.invariant-loop-at

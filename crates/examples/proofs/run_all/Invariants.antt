@@ -1,5 +1,5 @@
 -- The loop keeps the lengths of what is lent; what is left of the text falls.
-use Rattle.std.proofs.Common.{◌≡◌, ◌-◌, length, rules}
+use Rattle.std.proofs.Common.{◌≡◌, ◌-◌, length}
 use Rattle.examples.proofs.run_all.Given as goal
 
 abbrev pub invariant-loop-at : goal.invariant-loop-at

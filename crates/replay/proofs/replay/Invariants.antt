@@ -1,5 +1,5 @@
 -- Nothing is to be known of the counts; the cases that are left fall.
-use Rattle.std.proofs.Common.{◌-◌, rules}
+use Rattle.std.proofs.Common.{◌-◌}
 use Rattle.replay.proofs.replay.Given as goal
 
 abbrev pub invariant-loop-done : goal.invariant-loop-done

@@ -1,6 +1,6 @@
 -- The length of the report lies within the bytes that were lent for it.
 use Rattle.treereport.proofs.Meaning.{report_fits}
-use Rattle.std.proofs.Common.{sym, length-take-le, rules}
+use Rattle.std.proofs.Common.{sym, length-take-le}
 use Rattle.replay_files.proofs.agrees.Goals as goal
 
 pub slice_bounds-out-end : goal.slice_bounds-out-end

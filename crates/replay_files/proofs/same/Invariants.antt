@@ -1,5 +1,5 @@
 -- Inside the loop the lengths are the same; what is left of them falls.
-use Rattle.std.proofs.Common.{◌≡◌, ◌-◌, length, rules}
+use Rattle.std.proofs.Common.{◌≡◌, ◌-◌, length}
 use Rattle.replay_files.proofs.same.Given as goal
 
 abbrev pub invariant-loop-k : goal.invariant-loop-k

@@ -1,5 +1,5 @@
 -- What is left of the table falls.
-use Rattle.std.proofs.Common.{◌-◌, length, rules}
+use Rattle.std.proofs.Common.{◌-◌, length}
 use Rattle.replay_hld.proofs.same.Given as goal
 
 abbrev pub invariant-loop-k : goal.invariant-loop-k

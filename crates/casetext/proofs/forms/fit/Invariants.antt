@@ -1,5 +1,5 @@
 -- Nothing is to be known of what was found; what is left of the form falls.
-use Rattle.std.proofs.Common.{◌-◌, rules}
+use Rattle.std.proofs.Common.{◌-◌}
 use Rattle.casetext.proofs.forms.fit.Given as goal
 
 abbrev pub invariant-loop-k : goal.invariant-loop-k

@@ -1,5 +1,5 @@
 -- Nothing is to be known of the forms passed; what is left of them falls.
-use Rattle.std.proofs.Common.{◌-◌, length, rules}
+use Rattle.std.proofs.Common.{◌-◌, length}
 use Rattle.casetext.proofs.forms.form.Given as goal
 
 abbrev pub invariant-loop-from : goal.invariant-loop-from

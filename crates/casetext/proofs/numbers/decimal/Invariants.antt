@@ -1,5 +1,5 @@
 -- The test before each digit keeps the sum within 32 bits; what is left of the text falls.
-use Rattle.std.proofs.Common.{◌-◌, length, rules}
+use Rattle.std.proofs.Common.{◌-◌, length}
 use Rattle.casetext.proofs.numbers.decimal.Given as goal
 
 abbrev pub invariant-loop-next : goal.invariant-loop-next

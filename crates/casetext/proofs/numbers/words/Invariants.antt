@@ -1,5 +1,5 @@
 -- Nothing is to be known of the positions; what is left of the words falls.
-use Rattle.std.proofs.Common.{◌-◌, length, rules}
+use Rattle.std.proofs.Common.{◌-◌, length}
 use Rattle.casetext.proofs.numbers.words.Given as goal
 
 abbrev pub invariant-loop-k : goal.invariant-loop-k

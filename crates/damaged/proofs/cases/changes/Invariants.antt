@@ -1,5 +1,5 @@
 -- The loop keeps the length of the tables; the changes that are left fall.
-use Rattle.std.proofs.Common.{◌≡◌, length, rules}
+use Rattle.std.proofs.Common.{◌≡◌, length}
 use Rattle.damaged.proofs.cases.changes.Given as goal
 
 abbrev pub invariant-loop-left : goal.invariant-loop-left

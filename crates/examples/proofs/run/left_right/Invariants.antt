@@ -1,5 +1,5 @@
 -- What is left of work falls.
-use Rattle.std.proofs.Common.{◌-◌, length, rules}
+use Rattle.std.proofs.Common.{◌-◌, length}
 use Rattle.examples.proofs.run.left_right.Given as goal
 
 abbrev pub invariant-loop-i : goal.invariant-loop-i

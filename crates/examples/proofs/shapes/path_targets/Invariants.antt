@@ -1,5 +1,5 @@
 -- The loop keeps the length of out; what is left of it falls.
-use Rattle.std.proofs.Common.{◌≡◌, ◌-◌, length, rules}
+use Rattle.std.proofs.Common.{◌≡◌, ◌-◌, length}
 use Rattle.examples.proofs.shapes.path_targets.Given as goal
 
 abbrev pub invariant-loop-e : goal.invariant-loop-e
