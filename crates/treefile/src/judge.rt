@@ -17,6 +17,9 @@ pub const MAX_QUERIES: usize = 64;
 // The most numbers of a root section.
 const MAX_ROOTS: usize = 1;
 
+// The kinds of queries are 1 to 8.
+const LAST_KIND: usize = 8;
+
 // How many offsets, targets and queries a file has, and its root; all 0 where it is not good.
 #[derive(Clone, Copy)]
 pub struct Shape {
@@ -120,7 +123,7 @@ fn good_query(bytes: &[u8], width: Width, p: usize) -> bool
     if kind < 1 {
         return false;
     }
-    if 8 < kind {
+    if LAST_KIND < kind {
         return false;
     }
     if kind == 2 {

@@ -12,9 +12,9 @@ pub returns-then-kind-lt1 : goal.returns-then-kind-lt1
 returns-then-kind-lt1 c =
     sym (query_low (query_at (numbers (bytes_in c.args.width) c.args.bytes.now) c.args.p) (omega (arith, c.if-kind-lt1.true, c.number-kind.ensures.value)))
 
-pub returns-then-kind-gt8 : goal.returns-then-kind-gt8
-returns-then-kind-gt8 c =
-    sym (query_high (query_at (numbers (bytes_in c.args.width) c.args.bytes.now) c.args.p) (omega (arith, c.if-kind-gt8.true, c.number-kind.ensures.value)))
+pub returns-then-kind-gt-LAST_KIND : goal.returns-then-kind-gt-LAST_KIND
+returns-then-kind-gt-LAST_KIND c =
+    sym (query_high (query_at (numbers (bytes_in c.args.width) c.args.bytes.now) c.args.p) (omega (arith, c.if-kind-gt-LAST_KIND.true, c.number-kind.ensures.value)))
 
 pub returns-then-kind-eq2 : goal.returns-then-kind-eq2
 returns-then-kind-eq2 c =
@@ -30,4 +30,4 @@ overflow_add-p c =
 
 pub returns : goal.returns
 returns c =
-    ap (λ (x : ℕ). eqb x 0) c.number.ensures.value ∙ sym (query-two-numbers (query_at (numbers (bytes_in c.args.width) c.args.bytes.now) c.args.p) (omega (arith, c.if-kind-lt1.false, c.number-kind.ensures.value)) (omega (arith, c.if-kind-gt8.false, c.number-kind.ensures.value)) (λ e. c.if-kind-eq2.false (c.number-kind.ensures.value ∙ e)) (λ e. c.if-kind-eq4.false (c.number-kind.ensures.value ∙ e)))
+    ap (λ (x : ℕ). eqb x 0) c.number.ensures.value ∙ sym (query-two-numbers (query_at (numbers (bytes_in c.args.width) c.args.bytes.now) c.args.p) (omega (arith, c.if-kind-lt1.false, c.number-kind.ensures.value)) (omega (arith, c.if-kind-gt-LAST_KIND.false, c.number-kind.ensures.value)) (λ e. c.if-kind-eq2.false (c.number-kind.ensures.value ∙ e)) (λ e. c.if-kind-eq4.false (c.number-kind.ensures.value ∙ e)))
