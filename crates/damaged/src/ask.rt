@@ -10,12 +10,17 @@ use sizes::subtrees::{subtree_range, subtree_size};
 use std::io;
 use std::io::Print;
 
+// Prints a space and a number.
+fn print_value(rt: &impl Print, x: usize) -> io::Result<()> {
+    print!(rt; " {x}")
+}
+
 // Prints the code of an answer, and its number where it has one.
 fn print(rt: &impl Print, answer: Answer) -> io::Result<()> {
     let code = answer.code();
     print!(rt; "{code}")?;
     if let Answer::Is(x) = answer {
-        return print!(rt; " {x}");
+        return print_value(rt, x);
     }
     Ok(())
 }
@@ -25,7 +30,8 @@ fn print_interval(rt: &impl Print, interval: Interval) -> io::Result<()> {
     let code = interval.code();
     print!(rt; "{code}")?;
     if let Interval::Between(start, end) = interval {
-        return print!(rt; " {start} {end}");
+        print_value(rt, start)?;
+        return print_value(rt, end);
     }
     Ok(())
 }
