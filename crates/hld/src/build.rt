@@ -30,7 +30,8 @@ fn long(
     if depth.len() != n {
         return false;
     }
-    if head.len() != n {
+    let heads = head.len();
+    if heads != n {
         return false;
     }
     if id.len() != n {

@@ -16,8 +16,14 @@ use Rattle.ranges.specs.Flat.{stride, flat}
 use Rattle.ranges.specs.Calls.{Answered, refused, listed}
 use Rattle.rangelists.specs.Values.{blank, ByValue}
 use Rattle.answers.specs.Limits.{most_ranges}
-use Rattle.records.specs.Inner.{copied, plan, plan_of, Planned}
+use Rattle.records.specs.Inner.{copied, plan, plan_of, Planned, Copied}
+use Rattle.records.specs.Records.{RecordedAs}
+use Rattle.records.specs.declared.plans.Plan.{Plan}
 use Rattle.records.proofs.Copying.{copied_all}
+
+-- a plan that was copied is what the call is to leave
+pub recorded : {a : Answered} {lent left : List PathRange} {p : Plan} {r : Listed} → Planned a (length lent) p → Copied p lent left r → RecordedAs a lent left r
+recorded {lent = lent} h c = record { answer = c.answer ∙ h.answer; list = c.list ∙ h.list lent refl }
 
 -- a slot below the most ranges stands within an array of their numbers
 pub slot_within : (w : List ℕ) (i : ℕ) → length w ≡ stride * most_ranges → i < most_ranges → stride * i + stride ≤ length w

@@ -45,7 +45,7 @@ pub fn read_numbers(bytes: &[u8], at: usize, out: &mut [u32]) {
     }
 }
 
-// Reads to the front of the buffer, until it is full or the input ends, and returns how many bytes.
+// Reads to the front of the buffer, until it is full or the input ends, and returns how many bytes. The one error is that of a read.
 fn read_full<R: Read>(reader: &mut R, buffer: &mut [u8]) -> io::Result<usize>
     ensures ok { IfOk result (λ count. count ≤ length buffer.new) }
     ensures err { OnErr result (length buffer.new ≡ length buffer.old) }
@@ -62,7 +62,7 @@ fn read_full<R: Read>(reader: &mut R, buffer: &mut [u8]) -> io::Result<usize>
 }
 
 // Reads the sample to the front of the buffer and returns its length. Where the buffer is full there may be more, and the length is 0: no sample is
-// so short, so it counts as malformed.
+// so short, so it counts as malformed. The one error is that of a read.
 pub fn read_sample<R: Read>(reader: &mut R, buffer: &mut [u8]) -> io::Result<usize>
     ensures ok { IfOk result (λ count. count ≤ length buffer.new) }
     ensures err { OnErr result (length buffer.new ≡ length buffer.old) }

@@ -7,8 +7,8 @@ returns-then-parent-n c = decides_no (λ l. c.if-parent-n.true l.parent)
 pub returns-then-depth-n : goal.returns-then-depth-n
 returns-then-depth-n c = decides_no (λ l. c.if-depth-n.true l.depth)
 
-pub returns-then-head-n : goal.returns-then-head-n
-returns-then-head-n c = decides_no (λ l. c.if-head-n.true l.head)
+pub returns-then-heads-n : goal.returns-then-heads-n
+returns-then-heads-n c = decides_no (λ l. c.if-heads-n.true l.head)
 
 pub returns-then-id-n : goal.returns-then-id-n
 returns-then-id-n c = decides_no (λ l. c.if-id-n.true l.id)
@@ -17,4 +17,4 @@ pub returns-then-order-n : goal.returns-then-order-n
 returns-then-order-n c = decides_no (λ l. c.if-order-n.true l.order)
 
 pub returns : goal.returns
-returns c = decides_eqb _ _ (λ e. record { parent = c.if-parent-n.false; depth = c.if-depth-n.false; head = c.if-head-n.false; id = c.if-id-n.false; order = c.if-order-n.false; size = e }) (λ l. l.size)
+returns c = decides_eqb _ _ (λ e. record { parent = c.if-parent-n.false; depth = c.if-depth-n.false; head = c.if-heads-n.false; id = c.if-id-n.false; order = c.if-order-n.false; size = e }) (λ l. l.size)
