@@ -2,8 +2,13 @@
 use native.Mathlib.Omega.{arith}
 use mir.Facts.{Fits-widen}
 use Rattle.symmetry.proofs.Loops.{next_fits}
-use Rattle.symmetry.proofs.LoopBack.{back_start, back_room, back_step, back_next, back_full, back_other, back_done}
+use Rattle.symmetry.proofs.LoopBack.{BackRoom, back_start, back_room, back_step, back_next, back_full, back_other, back_done}
 use Rattle.symmetry.proofs.turn_back.Goals as goal
+use Rattle.symmetry.proofs.turn_back.Goals.{Then-e-offsets}
+
+-- what is known of the entry in hand
+room : (c : Then-e-offsets) → BackRoom c.args.offsets.now c.args.n c.args.base c.args.work.now c.loop-u.work c.loop-u.e
+room c = back_room c.requires c.loop-u.invariant c.loop-u-test.true c.if-e-offsets.true
 
 pub loop-u-init : goal.loop-u-init
 loop-u-init c = back_start c.requires
@@ -21,40 +26,40 @@ pub overflow_cast-offsets : goal.overflow_cast-offsets
 overflow_cast-offsets c = Fits-widen tt (c.shared_slice_known-1.given _)
 
 pub overflow_add-x : goal.overflow_add-x
-overflow_add-x c = omega (arith, back_room c.requires c.loop-u.invariant c.loop-u-test.true c.if-e-offsets.true)
+overflow_add-x c = omega (arith, room (goal.at.overflow_add-x c).Then-e-offsets)
 
 pub overflow_add-x-then-e-offsets : goal.overflow_add-x-then-e-offsets
-overflow_add-x-then-e-offsets c = omega (arith, back_room c.requires c.loop-u.invariant c.loop-u-test.true c.if-e-offsets.true)
+overflow_add-x-then-e-offsets c = omega (arith, room (goal.at.overflow_add-x-then-e-offsets c).Then-e-offsets)
 
 pub offset_bounds-work-base : goal.offset_bounds-work-base
-offset_bounds-work-base c = omega (arith, back_room c.requires c.loop-u.invariant c.loop-u-test.true c.if-e-offsets.true)
+offset_bounds-work-base c = omega (arith, room (goal.at.offset_bounds-work-base c).Then-e-offsets)
 
 pub bounds-work-base : goal.bounds-work-base
-bounds-work-base c = omega (arith, back_room c.requires c.loop-u.invariant c.loop-u-test.true c.if-e-offsets.true)
+bounds-work-base c = omega (arith, room (goal.at.bounds-work-base c).Then-e-offsets)
 
 pub overflow_cast-x : goal.overflow_cast-x
 overflow_cast-x c = Fits-widen tt (c.slice_known-1.given _)
 
 pub overflow_add-next : goal.overflow_add-next
-overflow_add-next c = omega (arith, back_room c.requires c.loop-u.invariant c.loop-u-test.true c.if-e-offsets.true)
+overflow_add-next c = omega (arith, room (goal.at.overflow_add-next c).Then-e-offsets)
 
 pub offset_bounds-work-base-then-e-offsets : goal.offset_bounds-work-base-then-e-offsets
-offset_bounds-work-base-then-e-offsets c = omega (arith, back_room c.requires c.loop-u.invariant c.loop-u-test.true c.if-e-offsets.true)
+offset_bounds-work-base-then-e-offsets c = omega (arith, room (goal.at.offset_bounds-work-base-then-e-offsets c).Then-e-offsets)
 
 pub bounds-work-base-then-e-offsets : goal.bounds-work-base-then-e-offsets
-bounds-work-base-then-e-offsets c = omega (arith, back_room c.requires c.loop-u.invariant c.loop-u-test.true c.if-e-offsets.true)
+bounds-work-base-then-e-offsets c = omega (arith, room (goal.at.bounds-work-base-then-e-offsets c).Then-e-offsets)
 
 pub overflow_cast-next : goal.overflow_cast-next
 overflow_cast-next c = Fits-widen tt (c.slice_known-then-e-offsets-1.given _)
 
 pub overflow_add-x-then-e-offsets-2 : goal.overflow_add-x-then-e-offsets-2
-overflow_add-x-then-e-offsets-2 c = omega (arith, back_room c.requires c.loop-u.invariant c.loop-u-test.true c.if-e-offsets.true)
+overflow_add-x-then-e-offsets-2 c = omega (arith, room (goal.at.overflow_add-x-then-e-offsets-2 c).Then-e-offsets)
 
 pub offset_bounds-offsets-x : goal.offset_bounds-offsets-x
-offset_bounds-offsets-x c = omega (arith, back_room c.requires c.loop-u.invariant c.loop-u-test.true c.if-e-offsets.true)
+offset_bounds-offsets-x c = omega (arith, room (goal.at.offset_bounds-offsets-x c).Then-e-offsets)
 
 pub bounds-offsets-x : goal.bounds-offsets-x
-bounds-offsets-x c = omega (arith, back_room c.requires c.loop-u.invariant c.loop-u-test.true c.if-e-offsets.true)
+bounds-offsets-x c = omega (arith, room (goal.at.bounds-offsets-x c).Then-e-offsets)
 
 pub overflow_cast-offsets-then-e-offsets : goal.overflow_cast-offsets-then-e-offsets
 overflow_cast-offsets-then-e-offsets c = Fits-widen tt (c.shared_slice_known-then-e-offsets-1.given _)
@@ -71,16 +76,16 @@ returns-then-offsets-x c =
     c.if-offsets-x.true
 
 pub overflow_add-base : goal.overflow_add-base
-overflow_add-base c = omega (arith, back_room c.requires c.loop-u.invariant c.loop-u-test.true c.if-e-offsets.true)
+overflow_add-base c = omega (arith, room (goal.at.overflow_add-base c).Then-e-offsets)
 
 pub overflow_add-base-then-e-offsets : goal.overflow_add-base-then-e-offsets
-overflow_add-base-then-e-offsets c = omega (arith, back_room c.requires c.loop-u.invariant c.loop-u-test.true c.if-e-offsets.true)
+overflow_add-base-then-e-offsets c = omega (arith, room (goal.at.overflow_add-base-then-e-offsets c).Then-e-offsets)
 
 pub offset_bounds-work-base-then-e-offsets-2 : goal.offset_bounds-work-base-then-e-offsets-2
-offset_bounds-work-base-then-e-offsets-2 c = omega (arith, back_room c.requires c.loop-u.invariant c.loop-u-test.true c.if-e-offsets.true)
+offset_bounds-work-base-then-e-offsets-2 c = omega (arith, room (goal.at.offset_bounds-work-base-then-e-offsets-2 c).Then-e-offsets)
 
 pub bounds-work-base-then-e-offsets-2 : goal.bounds-work-base-then-e-offsets-2
-bounds-work-base-then-e-offsets-2 c = omega (arith, back_room c.requires c.loop-u.invariant c.loop-u-test.true c.if-e-offsets.true)
+bounds-work-base-then-e-offsets-2 c = omega (arith, room (goal.at.bounds-work-base-then-e-offsets-2 c).Then-e-offsets)
 
 pub overflow_cast-work : goal.overflow_cast-work
 overflow_cast-work c = Fits-widen tt (c.slice_known-then-e-offsets-2-1.given _)
@@ -103,19 +108,19 @@ pub overflow_cast-work-then-e-offsets : goal.overflow_cast-work-then-e-offsets
 overflow_cast-work-then-e-offsets c = next_fits c.if-offsets-x.false (c.shared_slice_known-then-e-offsets-1.given _)
 
 pub overflow_add-work-then-e-offsets : goal.overflow_add-work-then-e-offsets
-overflow_add-work-then-e-offsets c = omega (arith, back_room c.requires c.loop-u.invariant c.loop-u-test.true c.if-e-offsets.true)
+overflow_add-work-then-e-offsets c = omega (arith, room (goal.at.overflow_add-work-then-e-offsets c).Then-e-offsets)
 
 pub offset_bounds-work-base-then-e-offsets-3 : goal.offset_bounds-work-base-then-e-offsets-3
-offset_bounds-work-base-then-e-offsets-3 c = omega (arith, back_room c.requires c.loop-u.invariant c.loop-u-test.true c.if-e-offsets.true)
+offset_bounds-work-base-then-e-offsets-3 c = omega (arith, room (goal.at.offset_bounds-work-base-then-e-offsets-3 c).Then-e-offsets)
 
 pub bounds-work-base-then-e-offsets-3 : goal.bounds-work-base-then-e-offsets-3
-bounds-work-base-then-e-offsets-3 c = omega (arith, back_room c.requires c.loop-u.invariant c.loop-u-test.true c.if-e-offsets.true)
+bounds-work-base-then-e-offsets-3 c = omega (arith, room (goal.at.bounds-work-base-then-e-offsets-3 c).Then-e-offsets)
 
 pub overflow_add-e : goal.overflow_add-e
-overflow_add-e c = omega (arith, back_room c.requires c.loop-u.invariant c.loop-u-test.true c.if-e-offsets.true)
+overflow_add-e c = omega (arith, room (goal.at.overflow_add-e c).Then-e-offsets)
 
 pub loop-u-smaller-then-e-offsets : goal.loop-u-smaller-then-e-offsets
-loop-u-smaller-then-e-offsets c = omega (arith, back_room c.requires c.loop-u.invariant c.loop-u-test.true c.if-e-offsets.true)
+loop-u-smaller-then-e-offsets c = omega (arith, room (goal.at.loop-u-smaller-then-e-offsets c).Then-e-offsets)
 
 pub loop-u-preserved-then-e-offsets : goal.loop-u-preserved-then-e-offsets
 loop-u-preserved-then-e-offsets c =

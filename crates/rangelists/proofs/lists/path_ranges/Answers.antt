@@ -1,10 +1,18 @@
 -- `lists::path_ranges` meets its contract: each way out is one of the ways that a call for ranges goes.
+use Prim.Native.Nat.{◌+◌, ◌<◌, ◌^◌}
 use native.Mathlib.Omega.{arith}
 use mathlib.Core.Path.{sym, ap, ◌∙◌}
 use lib.ListN.{length}
 use Rattle.tables.specs.Tables.{six}
 use Rattle.rangelists.proofs.Listing.{last_few, met_known, met-ends, met_few, ranges_refused, ready-some, ready_small, ready_climbs, ranges_lost, ranges_short, ranges-written}
 use Rattle.rangelists.proofs.lists.path_ranges.Goals as goal
+use Rattle.rangelists.proofs.lists.path_ranges.Goals.{In-Met}
+
+-- both sides together left few chains
+few : (c : In-Met) → c.in-Met.climb.u_count + c.in-Met.climb.v_count < 2 ^ 32
+few c =
+    let t = six c.args.parent.now c.args.depth.now c.args.head.now c.args.id.now c.args.order.now c.args.size.now in
+    met_few c.args.kind t c.args.u c.args.v _ (sym (c.climb_between.ensures c.args.order.now c.args.size.now) ∙ c.in-Met.is) (ready-some c.args.kind t c.args.u c.args.v (sym c.asked.ensures ∙ c.in_default.is)) (ready_small c.args.kind t c.args.u c.args.v (sym c.asked.ensures ∙ c.in_default.is))
 
 pub returns-in-Refused : goal.returns-in-Refused
 returns-in-Refused c =
@@ -22,9 +30,7 @@ returns-in_default-climb_between c =
     ranges_lost c.args.kind t c.args.u c.args.v (sym c.asked.ensures ∙ c.in_default.is) c.args.ranges.now (sym (c.climb_between.ensures c.args.order.now c.args.size.now) ∙ c.in_default-climb_between.is)
 
 pub overflow_add-count : goal.overflow_add-count
-overflow_add-count c =
-    let t = six c.args.parent.now c.args.depth.now c.args.head.now c.args.id.now c.args.order.now c.args.size.now in
-    omega (arith, met_few c.args.kind t c.args.u c.args.v _ (sym (c.climb_between.ensures c.args.order.now c.args.size.now) ∙ c.in-Met.is) (ready-some c.args.kind t c.args.u c.args.v (sym c.asked.ensures ∙ c.in_default.is)) (ready_small c.args.kind t c.args.u c.args.v (sym c.asked.ensures ∙ c.in_default.is)))
+overflow_add-count c = omega (arith, few (goal.at.overflow_add-count c).In-Met)
 
 pub last_chain-requires : goal.last_chain-requires
 last_chain-requires c =
@@ -32,14 +38,10 @@ last_chain-requires c =
     met-ends c.args.kind t c.args.u c.args.v _ (sym (c.climb_between.ensures c.args.order.now c.args.size.now) ∙ c.in-Met.is) (ready_small c.args.kind t c.args.u c.args.v (sym c.asked.ensures ∙ c.in_default.is))
 
 pub overflow_add-count-2 : goal.overflow_add-count-2
-overflow_add-count-2 c =
-    let t = six c.args.parent.now c.args.depth.now c.args.head.now c.args.id.now c.args.order.now c.args.size.now in
-    omega (arith, last_few c.last_chain.result, c.last_count.ensures, met_few c.args.kind t c.args.u c.args.v _ (sym (c.climb_between.ensures c.args.order.now c.args.size.now) ∙ c.in-Met.is) (ready-some c.args.kind t c.args.u c.args.v (sym c.asked.ensures ∙ c.in_default.is)) (ready_small c.args.kind t c.args.u c.args.v (sym c.asked.ensures ∙ c.in_default.is)))
+overflow_add-count-2 c = omega (arith, last_few c.last_chain.result, c.last_count.ensures, few (goal.at.overflow_add-count-2 c).In-Met)
 
 pub overflow_mul-count : goal.overflow_mul-count
-overflow_mul-count c =
-    let t = six c.args.parent.now c.args.depth.now c.args.head.now c.args.id.now c.args.order.now c.args.size.now in
-    omega (arith, last_few c.last_chain.result, c.last_count.ensures, met_few c.args.kind t c.args.u c.args.v _ (sym (c.climb_between.ensures c.args.order.now c.args.size.now) ∙ c.in-Met.is) (ready-some c.args.kind t c.args.u c.args.v (sym c.asked.ensures ∙ c.in_default.is)) (ready_small c.args.kind t c.args.u c.args.v (sym c.asked.ensures ∙ c.in_default.is)))
+overflow_mul-count c = omega (arith, last_few c.last_chain.result, c.last_count.ensures, few (goal.at.overflow_mul-count c).In-Met)
 
 pub returns-then-ranges-count : goal.returns-then-ranges-count
 returns-then-ranges-count c =
