@@ -16,12 +16,9 @@ mod ask;
 mod cases;
 
 use casetext::{NOWHERE, find, remark};
-use sample::read_sample;
+use sample::{MAX_SAMPLE, read_sample};
 use std::io;
 use std::io::Print;
-
-// One byte more than the longest text that is read.
-const MAX_TEXT: usize = 65_536;
 
 // Runs each line with the tables above it.
 fn run(rt: &impl Print, text: &[u8]) -> io::Result<()> {
@@ -37,7 +34,7 @@ fn run(rt: &impl Print, text: &[u8]) -> io::Result<()> {
 }
 
 fn main(rt: HostRuntime) -> io::Result<()> {
-    let mut buffer = [0u8; MAX_TEXT];
+    let mut buffer = [0u8; MAX_SAMPLE];
     let count = read_sample(&mut rt.stdin(), &mut buffer)?;
     run(&rt, &buffer[..count])
 }

@@ -15,12 +15,9 @@ mod run;
 mod shapes;
 
 use casetext::find;
-use sample::read_sample;
+use sample::{MAX_SAMPLE, read_sample};
 use std::io;
 use std::io::Print;
-
-// One byte more than the longest text that is read.
-const MAX_TEXT: usize = 65_536;
 
 // One vertex more than the limit, one target more, and the work of both limits and an entry.
 const MAX_POINTS: usize = 32_770;
@@ -46,7 +43,7 @@ fn run_all(
 }
 
 fn main(rt: HostRuntime) -> io::Result<()> {
-    let mut buffer = [0u8; MAX_TEXT];
+    let mut buffer = [0u8; MAX_SAMPLE];
     let mut offsets = [0u32; MAX_POINTS];
     let mut targets = [0u32; MAX_ENTRIES];
     let mut work = [0u32; MAX_WORK];

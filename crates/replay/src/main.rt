@@ -6,14 +6,11 @@
 ghost use Rattle.std.specs.Prelude.{◌≤◌};
 
 use answers::codes::{BAD_SIZE, DISCONNECTED, DONE, HAS_CYCLE};
-use sample::{holds, number, print_count, print_malformed, read_numbers, read_sample};
+use sample::{MAX_SAMPLE, holds, number, print_count, print_malformed, read_numbers, read_sample};
 use std::io;
 use std::io::Print;
 use std::num::{wrapping_add_u64, wrapping_add_usize};
 use validate::validate_tree;
-
-// One byte more than the longest sample that is read.
-const MAX_SAMPLE: usize = 65_536;
 
 // The largest case of the sample.
 const MAX_VERTICES: usize = 64;

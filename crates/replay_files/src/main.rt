@@ -3,17 +3,11 @@
 // byte more follows a text of odd length. Files of its own come first: 01's examples without a mark, as far as they fit into a file.
 #![tactic(auto)]
 
-use sample::{holds, number, print_count, print_malformed, read_sample};
+use sample::{MAX_SAMPLE, holds, number, print_count, print_malformed, read_sample};
 use std::io;
 use std::io::Print;
 use std::num::{wrapping_add_u64, wrapping_add_usize};
-use treereport::report::report;
-
-// One byte more than the longest sample that is read.
-const MAX_SAMPLE: usize = 65_536;
-
-// What a report is given, which is more than the longest report takes.
-const MAX_REPORT: usize = 65_536;
+use treereport::report::{REPORT_ROOM, report};
 
 // What stands at one place of the sample.
 #[derive(Drop)]
@@ -114,7 +108,7 @@ fn same(a: &[u8], b: &[u8]) -> bool {
 
 // Whether the report of this file is the stored one.
 fn agrees(file: &[u8], stored: &[u8]) -> bool {
-    let mut out = [0u8; MAX_REPORT];
+    let mut out = [0u8; REPORT_ROOM];
     let length = report(file, &mut out);
     same(&out[..length], stored)
 }

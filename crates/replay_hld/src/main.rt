@@ -8,13 +8,10 @@ ghost use Rattle.std.specs.Prelude.{◌≤◌};
 use answers::codes::DONE;
 use answers::limits::NO_PARENT;
 use hld::build::try_hld;
-use sample::{holds, number, print_count, print_malformed, read_numbers, read_sample};
+use sample::{MAX_SAMPLE, holds, number, print_count, print_malformed, read_numbers, read_sample};
 use std::io;
 use std::io::Print;
 use std::num::{wrapping_add_u64, wrapping_add_usize};
-
-// One byte more than the longest sample that is read.
-const MAX_SAMPLE: usize = 65_536;
 
 // The largest case of the sample.
 const MAX_VERTICES: usize = 40;

@@ -7,6 +7,9 @@ use std::io;
 use std::io::{Print, Read};
 use std::num::wrapping_add_usize;
 
+// One byte more than the longest sample, or text, that a program reads.
+pub const MAX_SAMPLE: usize = 65_536;
+
 fn wide(x: u8) -> u32
     ensures { result < 256 }
 {

@@ -10,15 +10,12 @@ ghost use Rattle.treepaths.specs.Input.{InputIn};
 
 use std::io;
 use std::io::{Print, Read};
-use treereport::report::report;
+use treereport::report::{REPORT_ROOM, report};
 
 // One byte more than the largest well-formed file: 1,025 offsets, 2,048 targets, the root and 64 queries, with the four counts, are 3,334 numbers
 // of two bytes. Where the buffer is full, the input is longer than any such file, and so is the buffer: both are bad files, whatever follows
 // (law `long_bad` of treereport).
 const MAX_INPUT: usize = 6_669;
-
-// What the report is given, which is more than the longest report takes.
-const MAX_REPORT: usize = 65_536;
 
 // What was read.
 #[derive(Clone, Copy)]
@@ -51,7 +48,7 @@ fn main(rt: HostRuntime) -> io::Result<()> {
             .stderr()
             .write_all(b"treepaths: cannot read standard input\n");
     };
-    let mut out = [0u8; MAX_REPORT];
+    let mut out = [0u8; REPORT_ROOM];
     let length = report(&input[..count], &mut out);
     let Ok(()) = rt.write_all(&out[..length]) else {
         return rt
