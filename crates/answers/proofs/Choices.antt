@@ -1,12 +1,14 @@
 -- Laws of choosing by tests: what a choice is once a test is known, and what a choice tells of its tests.
-use Prim.Native.Nat.{ℕ, ◌+◌, ◌≤◌, ◌<◌}
+use Prim.Native.Nat.{ℕ, zero, suc, ◌+◌, ◌≤◌, ◌<◌}
 use native.Mathlib.Numerals.{add-one}
+use native.Mathlib.Omega.{arith}
 use mathlib.Core.Path.{◌≡◌, refl, sym, ap, ap₂, ◌∙◌}
 use mathlib.Core.Logic.{inl, inr}
 use mathlib.Core.Bool.{Bool, true, false, true≢false}
 use mathlib.Core.List.{List, [], ◌∷◌}
 use lib.ListN.{length, drop, get_or, drop_of_length-le}
 use lib.Seq.{drop-cons}
+use Rattle.std.specs.Prelude.{IsTrue}
 use Rattle.paths.specs.Walk.{In}
 use Rattle.answers.specs.Choice.{pick, both, all?}
 
@@ -87,3 +89,21 @@ all_others t x l e = ap (λ (b : Bool). both b (all? t l)) e
 pub all_same : (s t : ℕ → Bool) (l : List ℕ) → ((y : ℕ) → In y l → s y ≡ t y) → all? s l ≡ all? t l
 all_same s t [] f = refl
 all_same s t (x ∷ l) f = ap₂ both (f x (inl refl)) (all_same s t l (λ y h. f y (inr h)))
+
+-- Each index of a list has an entry that passes the test, or not: what an iterator's `all` answers.
+
+all_at : (t : ℕ → Bool) (l : List ℕ) → all? t l ≡ true → (k : ℕ) → k < length l → t (get_or l k 0) ≡ true
+all_at t [] e k h = absurd (omega arith)
+all_at t (x ∷ l) e zero h = (both_true (t x) (all? t l) e).0
+all_at t (x ∷ l) e (suc k) h = all_at t l (both_true (t x) (all? t l) e).1 k (omega arith)
+
+at_all : (t : ℕ → Bool) (l : List ℕ) → ((k : ℕ) → k < length l → t (get_or l k 0) ≡ true) → all? t l ≡ true
+at_all t [] f = refl
+at_all t (x ∷ l) f = both_passed (t x) (all? t l) (f zero (omega arith)) (at_all t l (λ k h. f (suc k) (omega arith)))
+
+pub each_all : (t : ℕ → Bool) (l : List ℕ) (b : Bool)
+    → (IsTrue b → (k : ℕ) → k < length l → t (get_or l k 0) ≡ true)
+    → (((k : ℕ) → k < length l → t (get_or l k 0) ≡ true) → IsTrue b)
+    → b ≡ all? t l
+each_all t l true f g = sym (at_all t l (f refl))
+each_all t l false f g = sym (not_passed (all? t l) (λ e. true≢false (sym (g (all_at t l e)))))

@@ -1,43 +1,55 @@
 -- 01, "Codes": the number and the values that each answer stands for. "A refused call returns its code and no other number."
-use Rattle.std.specs.Prelude.{ℕ, List, [], ◌∷◌}
-use Rattle.answers.specs.Codes.{done, bad_size, no_room, bad_vertex, bad_table, too_far}
+use Rattle.std.specs.Prelude.{ℕ, List, [], ◌∷◌, Result, Ok, Err}
+use Rattle.answers.specs.Codes.{done, bad_size, no_room, bad_offsets, bad_vertex, bad_root, not_symmetric, disconnected, has_cycle, bad_table, too_far}
 use Rattle.answers.specs.declared.answer.Refusal.{Refusal}
-use Rattle.answers.specs.declared.answer.Refusal.TheVariants.{BadSize, NoRoom, BadVertex, BadTable}
-use Rattle.answers.specs.declared.answer.Answer.{Answer}
-use Rattle.answers.specs.declared.answer.Answer.TheVariants.{Is, TooFar, Refused}
-use Rattle.answers.specs.declared.answer.Interval.{Interval}
-use Rattle.answers.specs.declared.answer.Interval.TheVariants.{Between, Refused as NoInterval}
-use Rattle.answers.specs.declared.answer.Listed.{Listed}
-use Rattle.answers.specs.declared.answer.Listed.TheVariants.{Count, Refused as NoList}
+use Rattle.answers.specs.declared.answer.Refusal.TheVariants.{BadSize, NoRoom, BadOffsets, BadVertex, BadRoot, NotSymmetric, Disconnected, HasCycle, BadTable, TooFar}
 
 abbrev pub refusal_code : Refusal → ℕ
 refusal_code BadSize = bad_size
 refusal_code NoRoom = no_room
+refusal_code BadOffsets = bad_offsets
 refusal_code BadVertex = bad_vertex
+refusal_code BadRoot = bad_root
+refusal_code NotSymmetric = not_symmetric
+refusal_code Disconnected = disconnected
+refusal_code HasCycle = has_cycle
 refusal_code BadTable = bad_table
+refusal_code TooFar = too_far
+
+-- the code of any answer
+abbrev pub code_of : {A : Type 0} → Result A Refusal → ℕ
+code_of (Ok x) = done
+code_of (Err r) = refusal_code r
+
+-- a vertex or another number
+abbrev pub Answer : Type 0
+Answer = Result ℕ Refusal
+
+-- the numbers from the first up to the second, the second excluded
+abbrev pub Interval : Type 0
+Interval = Result (ℕ × ℕ) Refusal
+
+-- how many ranges were written
+abbrev pub Listed : Type 0
+Listed = Result ℕ Refusal
 
 abbrev pub answer_code : Answer → ℕ
-answer_code (Is x) = done
-answer_code TooFar = too_far
-answer_code (Refused r) = refusal_code r
+answer_code a = code_of a
 
 abbrev pub answer_values : Answer → List ℕ
-answer_values (Is x) = x ∷ []
-answer_values TooFar = []
-answer_values (Refused r) = []
+answer_values (Ok x) = x ∷ []
+answer_values (Err r) = []
 
 abbrev pub interval_code : Interval → ℕ
-interval_code (Between a e) = done
-interval_code (NoInterval r) = refusal_code r
+interval_code i = code_of i
 
 abbrev pub interval_values : Interval → List ℕ
-interval_values (Between a e) = a ∷ e ∷ []
-interval_values (NoInterval r) = []
+interval_values (Ok (a, e)) = a ∷ e ∷ []
+interval_values (Err r) = []
 
 abbrev pub listed_code : Listed → ℕ
-listed_code (Count k) = done
-listed_code (NoList r) = refusal_code r
+listed_code l = code_of l
 
 abbrev pub listed_values : Listed → List ℕ
-listed_values (Count k) = k ∷ []
-listed_values (NoList r) = []
+listed_values (Ok k) = k ∷ []
+listed_values (Err r) = []

@@ -1,87 +1,49 @@
-// What a query answers, and the code of each answer.
+// What a call answers: a value, or the refusal that came first.
 ghost use Rattle.std.specs.Prelude.{◌≡◌};
-ghost use Rattle.answers.specs.Answers.{refusal_code, answer_code, interval_code, listed_code};
+ghost use Rattle.answers.specs.Answers.{refusal_code, code_of};
 
-use crate::codes::{BAD_SIZE, BAD_TABLE, BAD_VERTEX, DONE, NO_ROOM, TOO_FAR};
-
-// A refusal that any query, or a list of ranges, may give.
-#[derive(Clone, Copy)]
+// 01's refusals by their names. The number of each is its code.
+#[derive(Clone, Copy, PartialEq, Eq)]
 pub enum Refusal {
-    BadSize,
-    NoRoom,
-    BadVertex,
-    BadTable,
+    BadSize = 1,
+    NoRoom = 2,
+    BadOffsets = 3,
+    BadVertex = 4,
+    BadRoot = 5,
+    NotSymmetric = 6,
+    Disconnected = 7,
+    HasCycle = 8,
+    BadTable = 9,
+    TooFar = 10,
 }
 
-// A vertex or another number. Only such a query can ask for a step too many, so the refusal for that stands here.
-#[derive(Clone, Copy)]
-pub enum Answer {
-    Is(usize),
-    TooFar,
-    Refused(Refusal),
-}
+// The code of what is answered: a file's refusal has one too, but no call of the library gives it.
+pub const DONE: u32 = 0;
+
+// A vertex or another number.
+pub type Answer = Result<usize, Refusal>;
 
 // The numbers from the first up to the second, the second excluded.
-#[derive(Clone, Copy)]
-pub enum Interval {
-    Between(usize, usize),
-    Refused(Refusal),
-}
+pub type Interval = Result<(usize, usize), Refusal>;
 
 // How many ranges were written.
-#[derive(Clone, Copy)]
-pub enum Listed {
-    Count(usize),
-    Refused(Refusal),
-}
+pub type Listed = Result<usize, Refusal>;
 
 impl Refusal {
     // The code of a refusal.
     pub fn code(self) -> u32
         ensures { result ≡ refusal_code self }
     {
-        match self {
-            Refusal::BadSize => BAD_SIZE,
-            Refusal::NoRoom => NO_ROOM,
-            Refusal::BadVertex => BAD_VERTEX,
-            Refusal::BadTable => BAD_TABLE,
-        }
+        self as u32
     }
 }
 
-impl Answer {
-    // The code of an answer.
-    pub fn code(self) -> u32
-        ensures { result ≡ answer_code self }
-    {
-        match self {
-            Answer::Is(_) => DONE,
-            Answer::TooFar => TOO_FAR,
-            Answer::Refused(refusal) => refusal.code(),
-        }
-    }
-}
-
-impl Interval {
-    // The code of an interval.
-    pub fn code(self) -> u32
-        ensures { result ≡ interval_code self }
-    {
-        match self {
-            Interval::Between(_, _) => DONE,
-            Interval::Refused(refusal) => refusal.code(),
-        }
-    }
-}
-
-impl Listed {
-    // The code of a number of ranges.
-    pub fn code(self) -> u32
-        ensures { result ≡ listed_code self }
-    {
-        match self {
-            Listed::Count(_) => DONE,
-            Listed::Refused(refusal) => refusal.code(),
-        }
+// The code of an answer: 0 where there is one, else that of its refusal.
+pub fn code_of<T: Copy>(answer: Result<T, Refusal>) -> u32
+    ensures { result ≡ code_of answer }
+{
+    match answer {
+        Ok(_) => DONE,
+        Err(refusal) => refusal.code(),
     }
 }

@@ -1,7 +1,6 @@
-// What calls answer: 01's codes and limits by their names, the answers of queries, and the tests that come before a query.
+// What calls answer: 01's refusals and limits by their names, the answers of queries, and the tests that come before a query.
 #![tactic(auto)]
 
 pub mod answer;
 pub mod asked;
-pub mod codes;
 pub mod limits;

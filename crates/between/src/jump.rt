@@ -1,83 +1,51 @@
 // Jumps along a path.
 ghost use Rattle.std.specs.Prelude.{◌≡◌};
-ghost use Rattle.tables.specs.Tables.{lent};
-ghost use Rattle.queries.specs.Queries.{jump as jump_of};
-ghost use Rattle.between.specs.Inner.{Jumps, Jumped};
+ghost use Rattle.tables.specs.Tables.{six_in};
+ghost use Rattle.climb.specs.Asked.{size_of};
+ghost use Rattle.queries.specs.Queries.{jump as jump_of, jump_in};
+ghost use Rattle.between.specs.Inner.{Jumps};
 
 use answers::answer::{Answer, Refusal};
-use answers::asked::Verdict;
 use climb::asked::asked;
-use climb::climbing::climb_to_lca;
-use climb::places::{Climbed, Place};
-use climb::sound::{hangs, reach};
+use climb::climbing::meet;
+use climb::places::Place;
+use climb::sound::reach;
 use queries::ancestors::ancestor_from;
+use tables::Tables;
 
-// The vertex k steps from p on the way to q: up to the ancestor, then down, counted from q. An answer is taken apart and made again, which
-// is quicker than to move it whole.
-fn jump_from(
-    parent: &[u32],
-    depth: &[u32],
-    head: &[u32],
-    id: &[u32],
-    order: &[u32],
-    p: Place,
-    q: Place,
-    k: usize,
-) -> Answer
-    requires { Jumps parent.now depth.now head.now id.now order.now p q }
-    ensures { Jumped parent.now depth.now head.now id.now order.now p q k result }
+// The vertex k steps from p on the way to q: up to the ancestor, then down, counted from q. A refusal of the lookup is passed on.
+fn jump_from(tables: &Tables, p: Place, q: Place, k: usize) -> Answer
+    requires { Jumps (six_in tables.now) p q }
+    ensures { result ≡ jump_in (size_of (six_in tables.now)) (six_in tables.now) p.vertex q.vertex k }
 {
-    let n = parent.len();
-    let Climbed::Met(c) = climb_to_lca(parent, depth, head, id, p, q) else {
-        return Answer::Refused(Refusal::BadTable);
-    };
-    if !hangs(n, depth, id, c.u) {
-        return Answer::Refused(Refusal::BadTable);
-    }
-    let w = c.ancestor();
+    let n = tables.parent.len();
+    let climb = meet(tables, p, q)?;
+    let w = climb.ancestor();
     let up = p.depth - w.depth;
     let all = up + (q.depth - w.depth);
     if k <= up {
-        let found = ancestor_from(parent, depth, head, id, order, n, p, k);
-        let Answer::Is(x) = found else {
+        let found = ancestor_from(tables, n, p, k);
+        let Ok(x) = found else {
             return found;
         };
-        return Answer::Is(x);
+        return Ok(x);
     }
     if all < k {
-        return Answer::TooFar;
+        return Err(Refusal::TooFar);
     }
-    let found = ancestor_from(parent, depth, head, id, order, n, q, all - k);
-    let Answer::Is(x) = found else {
+    let found = ancestor_from(tables, n, q, all - k);
+    let Ok(x) = found else {
         return found;
     };
-    Answer::Is(x)
+    Ok(x)
 }
 
 // The vertex k steps from u on the way to v.
-pub fn jump(
-    parent: &[u32],
-    depth: &[u32],
-    head: &[u32],
-    id: &[u32],
-    order: &[u32],
-    size: &[u32],
-    u: usize,
-    v: usize,
-    k: usize,
-) -> Answer
-    ensures { result ≡ jump_of (lent parent depth head id order size) u v k }
+pub fn jump(tables: &Tables, u: usize, v: usize, k: usize) -> Answer
+    ensures { result ≡ jump_of (six_in tables.now) u v k }
 {
-    if let Verdict::Refused(refusal) = asked(parent, depth, head, id, order, size, &[u, v]) {
-        return Answer::Refused(refusal);
-    }
-    let p = reach(parent, depth, head, id, u);
-    if !p.sound {
-        return Answer::Refused(Refusal::BadTable);
-    }
-    let q = reach(parent, depth, head, id, v);
-    if !q.sound {
-        return Answer::Refused(Refusal::BadTable);
-    }
-    jump_from(parent, depth, head, id, order, p.place, q.place, k)
+    asked(tables, &[u, v])?;
+    let p = reach(tables, u)?;
+    let q = reach(tables, v)?;
+    jump_from(tables, p, q, k)
 }

@@ -1,16 +1,18 @@
 // The lowest common ancestor from any root: the last deepest of three climbs' ends.
 ghost use Rattle.std.specs.Prelude.{◌≡◌};
-ghost use Rattle.tables.specs.Tables.{lent};
+ghost use Rattle.tables.specs.Tables.{six_in};
+ghost use Rattle.climb.specs.Asked.{size_of};
+ghost use Rattle.climb.specs.Climbing.{climb_to};
 ghost use Rattle.climb.specs.Inner.{ClimbsFrom};
 ghost use Rattle.queries.specs.Queries.{lca as lca_of};
-ghost use Rattle.between.specs.Inner.{EndedAt, deeper_candidate as deeper_of, Deepest};
+ghost use Rattle.between.specs.Inner.{climb_end, deeper_candidate as deeper_of, Deepest};
 
 use answers::answer::{Answer, Refusal};
-use answers::asked::Verdict;
 use climb::asked::asked;
-use climb::climbing::climb_to_lca;
-use climb::places::{Climbed, Place};
-use climb::sound::{hangs, reach};
+use climb::climbing::meet;
+use climb::places::Place;
+use climb::sound::reach;
+use tables::Tables;
 
 // What the choice of the LCA needs of the place where a climb ended.
 #[derive(Clone, Copy)]
@@ -19,25 +21,14 @@ pub struct Candidate {
     pub depth: usize,
 }
 
-#[derive(Clone, Copy)]
-pub enum Ended {
-    At(Candidate),
-    Nowhere,
-}
-
 // The place where p and q meet, as a candidate: only its vertex and depth are handed on.
-fn meeting(parent: &[u32], depth: &[u32], head: &[u32], id: &[u32], p: Place, q: Place) -> Ended
-    requires { ClimbsFrom parent.now depth.now head.now id.now p q }
-    ensures { EndedAt parent.now depth.now head.now id.now p.vertex q.vertex result }
+fn meeting(tables: &Tables, p: Place, q: Place) -> Result<Candidate, Refusal>
+    requires { ClimbsFrom (six_in tables.now) p q }
+    ensures { result ≡ climb_end (climb_to (size_of (six_in tables.now)) (six_in tables.now) p.vertex q.vertex) }
 {
-    let Climbed::Met(c) = climb_to_lca(parent, depth, head, id, p, q) else {
-        return Ended::Nowhere;
-    };
-    if !hangs(parent.len(), depth, id, c.u) {
-        return Ended::Nowhere;
-    }
-    let w = c.ancestor();
-    Ended::At(Candidate {
+    let climb = meet(tables, p, q)?;
+    let w = climb.ancestor();
+    Ok(Candidate {
         vertex: w.vertex,
         depth: w.depth,
     })
@@ -54,46 +45,20 @@ fn deeper(a: Candidate, b: Candidate) -> Candidate
 fn deepest(candidates: [Candidate; 3]) -> Candidate
     ensures { Deepest candidates result }
 {
-    deeper(deeper(candidates[0], candidates[1]), candidates[2])
+    let [a, b, c] = candidates;
+    deeper(deeper(a, b), c)
 }
 
 // The lowest common ancestor of u and v as if r were the root.
-pub fn lca(
-    parent: &[u32],
-    depth: &[u32],
-    head: &[u32],
-    id: &[u32],
-    order: &[u32],
-    size: &[u32],
-    r: usize,
-    u: usize,
-    v: usize,
-) -> Answer
-    ensures { result ≡ lca_of (lent parent depth head id order size) r u v }
+pub fn lca(tables: &Tables, r: usize, u: usize, v: usize) -> Answer
+    ensures { result ≡ lca_of (six_in tables.now) r u v }
 {
-    if let Verdict::Refused(refusal) = asked(parent, depth, head, id, order, size, &[r, u, v]) {
-        return Answer::Refused(refusal);
-    }
-    let s = reach(parent, depth, head, id, r);
-    if !s.sound {
-        return Answer::Refused(Refusal::BadTable);
-    }
-    let p = reach(parent, depth, head, id, u);
-    if !p.sound {
-        return Answer::Refused(Refusal::BadTable);
-    }
-    let q = reach(parent, depth, head, id, v);
-    if !q.sound {
-        return Answer::Refused(Refusal::BadTable);
-    }
-    let Ended::At(a) = meeting(parent, depth, head, id, p.place, q.place) else {
-        return Answer::Refused(Refusal::BadTable);
-    };
-    let Ended::At(b) = meeting(parent, depth, head, id, s.place, p.place) else {
-        return Answer::Refused(Refusal::BadTable);
-    };
-    let Ended::At(c) = meeting(parent, depth, head, id, s.place, q.place) else {
-        return Answer::Refused(Refusal::BadTable);
-    };
-    Answer::Is(deepest([a, b, c]).vertex)
+    asked(tables, &[r, u, v])?;
+    let s = reach(tables, r)?;
+    let p = reach(tables, u)?;
+    let q = reach(tables, v)?;
+    let a = meeting(tables, p, q)?;
+    let b = meeting(tables, s, p)?;
+    let c = meeting(tables, s, q)?;
+    Ok(deepest([a, b, c]).vertex)
 }

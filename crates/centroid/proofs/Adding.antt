@@ -2,40 +2,24 @@
 use Prim.Native.Nat.{ℕ, suc, ◌+◌, ◌≤◌, ◌<◌}
 use native.Mathlib.Omega.{arith}
 use native.Mathlib.Numerals.{add-one}
-use mathlib.Core.Path.{◌≡◌, refl, sym, ap, ◌∙◌, subst, subst₂}
+use mathlib.Core.Path.{◌≡◌, sym, ap, ◌∙◌, subst, subst₂}
 use mathlib.Core.Logic.{◌≢◌}
 use mathlib.Core.Bool.{Bool, true, false}
 use mathlib.Core.List.{List, ◌∷◌}
-use lib.Dec.{eqb}
 use lib.ListN.{length, drop, set, length-set}
-use lib.Seq.{drop-cons, drop-length}
+use lib.Seq.{drop-cons}
 use Rattle.sums.specs.Sum.{at}
 use Rattle.sums.proofs.Sums.{up_to}
 use Rattle.graph.specs.Lent.{list_of}
-use Rattle.graph.specs.Marks.{mark_of}
 use Rattle.graph.specs.Work.{Only}
-use Rattle.graph.proofs.Frames.{only_refl, only_trans, only_set, at_set_same, at_set_other}
+use Rattle.graph.proofs.Frames.{only_trans, only_set, at_set_same, at_set_other}
 use Rattle.graph.proofs.Neighbours.{entry-below}
 use Rattle.paths.specs.Lists.{keep}
 use Rattle.paths.proofs.Kept.{keep_true, keep_false}
 use Rattle.centroid.specs.Regions.{start_at, parent_at, level_at, removed_from, regions_end}
 use Rattle.centroid.specs.Search.{live}
-use Rattle.centroid.specs.Parting.{left_of, StartAsks, waiting, Started, gone, new, AddAsks, Added}
-use Rattle.centroid.proofs.Living.{marked_gone, unmarked-live, live_kept}
-
--- what the mark of x says when it may become a start
-module _ {n x c t : ℕ} {w : List ℕ} (a : StartAsks n x c t w) (l : ℕ) {b : Bool} (mark : b ≡ eqb (mark_of w (removed_from n) x) 1) where
-  -- x is removed
-  pub start_gone : b ≡ true → Started n x c l t w w t
-  start_gone e = gone (marked_gone w n x a.vertex (sym mark ∙ e)) refl refl
-
-  -- x is left: there is room for it
-  pub start_room : b ≡ false → t < n
-  start_room e = a.fresh (unmarked-live w n x a.vertex (sym mark ∙ e))
-
-  -- and it becomes a start
-  pub start_new : b ≡ false → Started n x c l t w (waiting n x c l t w) (t + 1)
-  start_new e = new (unmarked-live w n x a.vertex (sym mark ∙ e)) refl refl
+use Rattle.centroid.specs.Parting.{left_of, StartAsks, waiting, Started, gone, new, AddAsks}
+use Rattle.centroid.proofs.Living.{live_kept}
 
 -- what a new start changes in work
 module _ (n x c l t : ℕ) (w : List ℕ) (room : regions_end n ≤ length w) (ht : t < n) where
@@ -80,21 +64,6 @@ pub record Adding (n c l t : ℕ) (K : List ℕ) (w₀ w : List ℕ) (R : List �
   pub least : t ≤ m
   pub only : Only 0 (removed_from n) w₀ w
 
-adding_start : (n c l t : ℕ) (K w : List ℕ) → Adding n c l t K w w K t
-adding_start n c l t K w =
-    record {
-      total = refl;
-      rest = λ i j h e. ap (at K) (omega arith);
-      starts = λ i h. absurd (omega arith);
-      parents = λ i h. absurd (omega arith);
-      levels = λ i h. absurd (omega arith);
-      old_starts = λ j h. refl;
-      old_parents = λ j h. refl;
-      old_levels = λ j h. refl;
-      least = omega arith;
-      only = only_refl 0 (removed_from n) w;
-    }
-
 -- the next of the rest
 adding-one : {n c l t : ℕ} {K w₀ w : List ℕ} {x : ℕ} {R : List ℕ} {m : ℕ} → Adding n c l t K w₀ w (x ∷ R) m → regions_end n ≤ length w → m < n
     → Adding n c l t K w₀ (waiting n x c l m w) R (m + 1)
@@ -127,71 +96,47 @@ rest_gone g l k h e = ap (keep g) (drop-cons l k 0 h) ∙ keep_false g (at l k) 
 pub rest_new : (g : ℕ → Bool) (l : List ℕ) (k : ℕ) → k < length l → g (at l k) ≡ true → keep g (drop k l) ≡ at l k ∷ keep g (drop (k + 1) l)
 rest_new g l k h e = ap (keep g) (drop-cons l k 0 h) ∙ keep_true g (at l k) (drop (suc k) l) e ∙ ap (λ (i : ℕ). at l k ∷ keep g (drop i l)) (sym (add-one k))
 
--- the loop over the list l, with work w₀ at its start
-module _ (os ts : List ℕ) (n c v t : ℕ) (w₀ l : List ℕ) (a : AddAsks os ts n c t w₀) (e : l ≡ list_of os ts c) where
-  -- k entries of l were looked at, and m starts are in work
-  abbrev pub Loop : List ℕ → ℕ → ℕ → Type 0
-  Loop w k m = Adding n c v t (keep (live w₀ n) l) w₀ w (keep (live w₀ n) (drop k l)) m
+-- of the list of c the first k entries were looked at, and m starts are in work; w₀ is work at the start
+abbrev pub Loop : (os ts : List ℕ) (n c v t : ℕ) (w₀ w : List ℕ) (k m : ℕ) → Type 0
+Loop os ts n c v t w₀ w k m = Adding n c v t (left_of os ts n c w₀) w₀ w (keep (live w₀ n) (drop k (list_of os ts c))) m
 
-  -- none was looked at
-  pub loop_start : Loop w₀ 0 t
-  loop_start = adding_start n c v t (keep (live w₀ n) l) w₀
-
-  fits : t + length (keep (live w₀ n) l) ≤ n
-  fits = subst (λ (m : List ℕ). t + length (keep (live w₀ n) m) ≤ n) (sym e) a.fits
-
-  module _ {w : List ℕ} {k m : ℕ} (A : Loop w k m) (hk : k < length l) where
+module _ {os ts : List ℕ} {n c t : ℕ} {w₀ : List ℕ} (a : AddAsks os ts n c t w₀) {v : ℕ} {w : List ℕ} {k m : ℕ} (A : Loop os ts n c v t w₀ w k m) where
+  module _ (hk : k < length (list_of os ts c)) where
     same_live : live w n ≡ live w₀ n
     same_live = live_kept n w₀ w (λ i p q. A.only.after i p)
 
-    has_room : live w n (at l k) ≡ true → m < n
-    has_room g =
-        let z = ap length (rest_new (live w₀ n) l k hk (ap (λ (f : ℕ → Bool). f (at l k)) (sym same_live) ∙ g)) in
-        let total = A.total in
-        let f = fits in
-        omega arith
+    was_live : {b : Bool} → live w n (at (list_of os ts c) k) ≡ b → live w₀ n (at (list_of os ts c) k) ≡ b
+    was_live e = ap (λ (f : ℕ → Bool). f (at (list_of os ts c) k)) (sym same_live) ∙ e
 
-    entry : at l k < n
-    entry =
-        let z = a.tree.size in
-        let h = entry-below os ts a.tree.offsets a.tree.targets c k (let b = a.vertex in omega arith) (subst (λ (m : List ℕ). k < length m) e hk) in
-        let s = ap (λ (m : List ℕ). at m k) e in
-        omega arith
+    has_room : live w n (at (list_of os ts c) k) ≡ true → m < n
+    has_room e = omega (arith, ap length (rest_new (live w₀ n) (list_of os ts c) k hk (was_live e)), A.total, a.fits)
 
+    entry_asks : StartAsks n (at (list_of os ts c) k) c m w
+    entry_asks =
+        record {
+          small = a.tree.small;
+          vertex = omega (arith, a.tree.size, entry-below os ts a.tree.offsets a.tree.targets c k (omega (arith, a.tree.size, a.vertex)) hk);
+          centroid = a.vertex;
+          fresh = has_room;
+          room = omega (arith, a.room, A.only.same_length);
+        }
+
+    entry_more : {w' : List ℕ} {m' : ℕ} → Started n (at (list_of os ts c) k) c v m w w' m' → Loop os ts n c v t w₀ w' (k + 1) m'
+    entry_more {w'} {m'} (gone e same r) =
+        subst₂ (λ (x : List ℕ) (y : ℕ). Loop os ts n c v t w₀ x (k + 1) y) (sym same) (sym r)
+        (subst (λ (R : List ℕ). Adding n c v t (left_of os ts n c w₀) w₀ w R m) (rest_gone (live w₀ n) (list_of os ts c) k hk (was_live e)) A)
+    entry_more {w'} {m'} (new e same r) =
+        subst₂ (λ (x : List ℕ) (y : ℕ). Loop os ts n c v t w₀ x (k + 1) y) (sym same) (sym r)
+        (adding-one
+        (subst (λ (R : List ℕ). Adding n c v t (left_of os ts n c w₀) w₀ w R m) (rest_new (live w₀ n) (list_of os ts c) k hk (was_live e)) A)
+        (omega (arith, a.room, A.only.same_length)) (has_room e))
+
+  -- the same over the list l as the code holds it
+  module _ {l : List ℕ} (e : l ≡ list_of os ts c) (hk : k < length l) where
     -- the next entry may become a start
     pub loop_asks : StartAsks n (at l k) c m w
-    loop_asks =
-        record { small = a.tree.small; vertex = entry; centroid = a.vertex; fresh = has_room; room = omega (arith, a.room, A.only.same_length) }
+    loop_asks = subst (λ (y : List ℕ). k < length y → StartAsks n (at y k) c m w) (sym e) entry_asks hk
 
     -- one entry more
-    pub loop_more : {w' : List ℕ} {m' : ℕ} → Started n (at l k) c v m w w' m' → Loop w' (k + 1) m'
-    loop_more {w'} {m'} (gone g same r) =
-        subst₂ (λ (x : List ℕ) (y : ℕ). Loop x (k + 1) y) (sym same) (sym r)
-        (subst (λ (R : List ℕ). Adding n c v t (keep (live w₀ n) l) w₀ w R m) (rest_gone (live w₀ n) l k hk (ap (λ (f : ℕ → Bool). f (at l k)) (sym same_live) ∙ g)) A)
-    loop_more {w'} {m'} (new g same r) =
-        subst₂ (λ (x : List ℕ) (y : ℕ). Loop x (k + 1) y) (sym same) (sym r)
-        (adding-one
-        (subst (λ (R : List ℕ). Adding n c v t (keep (live w₀ n) l) w₀ w R m) (rest_new (live w₀ n) l k hk (ap (λ (f : ℕ → Bool). f (at l k)) (sym same_live) ∙ g)) A)
-        (omega (arith, a.room, A.only.same_length)) (has_room g))
-
-  all_there : {w : List ℕ} (k : ℕ) {m : ℕ} → Loop w k m → k ≡ length l → m ≡ t + length (keep (live w₀ n) l)
-  all_there {w} k {m} A h =
-      let z = ap (λ (i : ℕ). length (keep (live w₀ n) (drop i l))) h ∙ ap (λ (y : List ℕ). length (keep (live w₀ n) y)) (drop-length l) in
-      let total = A.total in
-      omega arith
-
-  -- all entries were looked at
-  pub loop-done : {w : List ℕ} (k : ℕ) {m : ℕ} → Loop w k m → k ≡ length l → Added os ts n c v t w₀ w m
-  loop-done {w} k {m} A h =
-      let same : keep (live w₀ n) l ≡ left_of os ts n c w₀ = ap (keep (live w₀ n)) e in
-      let all : m ≡ t + length (left_of os ts n c w₀) = all_there k A h ∙ ap (λ (y : List ℕ). t + length y) same in
-      record {
-        count = all;
-        starts = λ i hi. A.starts i (omega arith) ∙ ap (λ (y : List ℕ). at y i) same;
-        parents = λ i hi. A.parents i (omega arith);
-        levels = λ i hi. A.levels i (omega arith);
-        old_starts = A.old_starts;
-        old_parents = A.old_parents;
-        old_levels = A.old_levels;
-        only = A.only;
-      }
+    pub loop_more : {w' : List ℕ} {m' : ℕ} → Started n (at l k) c v m w w' m' → Loop os ts n c v t w₀ w' (k + 1) m'
+    loop_more {w'} {m'} = subst (λ (y : List ℕ). k < length y → Started n (at y k) c v m w w' m' → Loop os ts n c v t w₀ w' (k + 1) m') (sym e) (λ h. entry_more h) hk

@@ -1,14 +1,13 @@
 -- The call behind the tests 1 and 2: what each return leaves.
 use Prim.Native.Nat.{ℕ}
 use native.Mathlib.Omega.{arith}
-use mathlib.Core.Path.{◌≡◌, refl, subst}
-use mathlib.Core.Logic.{◌≢◌}
+use mathlib.Core.Path.{◌≡◌, refl, sym}
 use mathlib.Core.List.{List}
+use lib.ListN.{length}
 use Rattle.paths.proofs.Links.{tree_span}
 use Rattle.answers.specs.Codes.{done}
-use Rattle.graph.specs.Judgement.{First}
 use Rattle.graph.specs.Lent.{vertices, list_of}
-use Rattle.graph.specs.Validation.{Sized, graph_tests}
+use Rattle.graph.specs.Validation.{Sized}
 use Rattle.graph.proofs.Frames.{only_trans, only_wider}
 use Rattle.answers.proofs.Bounds.{vertices_small}
 use Rattle.graph.proofs.Passed.{done_sound}
@@ -36,28 +35,23 @@ lent_tree {os} {ts} {w} {w'} s j z =
       once = p.tree.no_repeat;
     }
 
-module _ (os ts up level w : List ℕ) (a : GraphAsks os ts up level w) {w₁ : List ℕ} {c : ℕ} (j : Judged os ts 0 w w₁ c) where
-  -- one of the tests 3 to 8 refuses
-  pub not_tree : c ≢ done → GraphDecomposed os ts up level w up level w₁ c
-  not_tree ne = record { code = j.code; written = λ z. absurd (ne z); refused = λ d. refl; only = j.only }
-
-  -- all are passed: the tree can be decomposed
-  pub tree_asks : c ≡ done → DecomposeAsks os ts (vertices os) up level w₁
-  tree_asks z =
-      record {
-        tree = lent_tree a.begun.sized j z;
-        up_long = a.long.up_long;
+-- n is the number of vertices, as the code has it
+module _ {os ts up level w : List ℕ} (a : GraphAsks os ts up level w) {w₁ : List ℕ} (j : Judged os ts 0 w w₁ done) {n : ℕ} (size : n ≡ vertices os) where
+  -- the tree can be decomposed
+  pub tree_asks : DecomposeAsks os ts n level w₁
+  tree_asks =
+      rw size (record {
+        tree = lent_tree a.begun.sized j refl;
         level_long = a.long.level_long;
-        room = (let r = a.begun.room in let l = j.only.same_length in omega arith);
-      }
+        room = omega (arith, a.begun.room, j.only.same_length);
+      })
 
   -- and is
-  pub is_tree : c ≡ done → {up' level' w₂ : List ℕ} → Decomposed os ts (vertices os) up' level' w₁ w₂
-      → GraphDecomposed os ts up level w up' level' w₂ done
-  is_tree z d =
+  pub is_tree : {up' level' w₂ : List ℕ} → length up' ≡ length up → Decomposed os ts n up' level' w₁ w₂ → GraphDecomposed os ts up level w up' level' w₂ done
+  is_tree {up'} {level'} same d =
       record {
-        code = subst (First (graph_tests os ts 0)) z j.code;
-        written = λ y. d.tables;
+        code = j.code;
+        written = λ y. rw (d.held (omega (arith, a.long.up_long)), sym size) d.tables;
         refused = λ ne. absurd (ne refl);
         only = only_trans j.only (only_wider (omega arith) (omega arith) d.only);
       }

@@ -3,11 +3,13 @@ use Prim.Native.Nat.{ℕ, ◌+◌, ◌≤◌, ◌<◌, ◌/◌, ◌%◌, ◌^◌
 use native.Mathlib.Omega.{arith}
 use native.Mathlib.Nat.{zero-div}
 use mathlib.Core.Path.{◌≡◌, refl, sym, ap, ◌∙◌}
-use mathlib.Core.Logic.{◌≢◌}
+use mathlib.Core.Logic.{◌≢◌, by_cases}
+use native.Mathlib.Decide.{ℕ_discrete}
+use Rattle.std.proofs.lemmas.List.{length-replicate}
 use mathlib.Core.Bool.{true}
 use mathlib.Core.List.{List}
 use lib.Dec.{ltb, leb}
-use lib.ListN.{set, length-set}
+use lib.ListN.{length, set, length-set, replicate}
 use borrow.Author.Tests.{le-ltb, le-leb, ne_eqb}
 use Rattle.sums.specs.Sum.{at, tally}
 use Rattle.sums.proofs.Sums.{sum_none}
@@ -22,7 +24,7 @@ use Rattle.graph.proofs.Frames.{only_refl, only_trans, only_wider, only_set, at_
 use Rattle.centroid.specs.Regions.{starts_from, start_at, parents_from, parent_at, levels_from, level_at, removed_from, queue_from, regions_end}
 use Rattle.centroid.specs.Decomposition.{DecompositionOf}
 use Rattle.centroid.specs.Search.{LentTree, live}
-use Rattle.centroid.specs.Parting.{first, Parting, PartingIn, RemoveAsks, Removed, DecomposeAsks, Decomposed}
+use Rattle.centroid.specs.Parting.{first, Parting, PartingIn, HeldIn, RemoveAsks, Removed, DecomposeAsks, Decomposed}
 use Rattle.centroid.proofs.Ways.{centroid_ways}
 use Rattle.centroid.proofs.Living.{unmarked-live}
 use Rattle.centroid.proofs.Classes.{on-joined}
@@ -81,12 +83,19 @@ no_parent_lem = refl
 abbrev pub begun : ℕ → List ℕ → List ℕ
 begun n w = set (set (set w (starts_from n) 0) (parents_from n) none) (levels_from n) 0
 
+-- a list for the parents: the table that is lent for them, or another where it has no room
+parents : (n : ℕ) (table : List ℕ) → (up : List ℕ) × (length up ≡ n) × HeldIn n table up
+parents n table =
+    by_cases (ℕ_discrete (length table) n) (λ e. (table, e, λ z. refl)) (λ ne. (replicate n 0, length-replicate n 0, λ z. absurd (ne z)))
+
 -- h entries were taken; w₀ is work as the loop began
-pub record Going (os ts : List ℕ) (n : ℕ) (w₀ up level w : List ℕ) (h t : ℕ) : Type 0 where
+pub record Going (os ts : List ℕ) (n : ℕ) (w₀ table level w : List ℕ) (h t : ℕ) : Type 0 where
+  pub up : List ℕ
+  pub held : HeldIn n table up
   pub state : PartingIn os ts n up level w h t
   pub only : Only 0 (regions_end n) w₀ w
 
-module _ {os ts : List ℕ} {n : ℕ} {up level w : List ℕ} (a : DecomposeAsks os ts n up level w) {z : List ℕ} (Z : Zeroed (removed_from n) (queue_from n) w z) where
+module _ {os ts : List ℕ} {n : ℕ} {level w : List ℕ} (a : DecomposeAsks os ts n level w) {z : List ℕ} (Z : Zeroed (removed_from n) (queue_from n) w z) where
   -- what was written before the loop
   pub begun_only : Only 0 (regions_end n) w (begun n z)
   begun_only =
@@ -111,8 +120,8 @@ module _ {os ts : List ℕ} {n : ℕ} {up level w : List ℕ} (a : DecomposeAsks
       unmarked-live (begun n z) n y hy (ne_eqb (mark_of (begun n z) (removed_from n) y) 1 (omega arith))
 
   -- none was taken
-  pub going_start : Going os ts n (begun n z) up level (begun n z) 0 1
-  going_start =
+  pub going_start : (table : List ℕ) → Going os ts n (begun n z) table level (begun n z) 0 1
+  going_start table =
       let some = a.tree.some in
       let room = a.room in
       let l₀ = Z.only.same_length in
@@ -120,9 +129,11 @@ module _ {os ts : List ℕ} {n : ℕ} {up level w : List ℕ} (a : DecomposeAsks
       let l₂ = length-set (set z (starts_from n) 0) (parents_from n) none in
       let first-at : (b : ℕ) → at (begun n z) (b + 0) ≡ at (begun n z) b = λ b. ap (at (begun n z)) (let e : b + 0 ≡ b = omega arith in e) in
       record {
+        up = (parents n table).0;
+        held = (parents n table).2;
         state = record {
           lv = λ y. n;
-          up_long = a.up_long;
+          up_long = (parents n table).1;
           level_long = a.level_long;
           levels = λ c hc l. absurd (omega arith);
           marks = λ y hy. none_marked y hy ∙ sym (le-leb n n (omega arith));
@@ -140,8 +151,8 @@ module _ {os ts : List ℕ} {n : ℕ} {up level w : List ℕ} (a : DecomposeAsks
         only = only_refl 0 (regions_end n) (begun n z);
       }
 
-  module _ {up₁ level₁ v : List ℕ} {h t : ℕ} (g : Going os ts n (begun n z) up₁ level₁ v h t) where
-    now_parting : Parting n (list_of os ts) (ptail a.tree.par a.tree.dep) (λ j. at v (start_at n j)) (λ j. at v (parent_at n j)) (λ j. at v (level_at n j)) g.state.lv (at up₁) h t
+  module _ {table₁ level₁ v : List ℕ} {h t : ℕ} (g : Going os ts n (begun n z) table₁ level₁ v h t) where
+    now_parting : Parting n (list_of os ts) (ptail a.tree.par a.tree.dep) (λ j. at v (start_at n j)) (λ j. at v (parent_at n j)) (λ j. at v (level_at n j)) g.state.lv (at g.up) h t
     now_parting = g.state.parting a.tree.par a.tree.dep a.tree.spans
 
     -- there are never more starts than vertices
@@ -149,14 +160,14 @@ module _ {os ts : List ℕ} {n : ℕ} {up level w : List ℕ} (a : DecomposeAsks
     going_few = (now_parting.within, parting_few a.tree.spans now_parting)
 
     -- the next one can be taken
-    pub going_asks : h < t → RemoveAsks os ts n h t up₁ level₁ v
+    pub going_asks : h < t → RemoveAsks os ts n h t table₁ level₁ v
     going_asks more =
-        record { tree = a.tree; room = omega (arith, a.room, g.only.same_length, begun_only.same_length); some = more; state = g.state }
+        record { tree = a.tree; room = omega (arith, a.room, g.only.same_length, begun_only.same_length); some = more; up = g.up; held = g.held; state = g.state }
 
     -- one more was taken
-    pub going_more : {up₂ level₂ v' : List ℕ} {t' : ℕ} → Removed os ts n h v up₂ level₂ v' t' → Going os ts n (begun n z) up₂ level₂ v' (h + 1) t'
-    going_more r = record { state = r.state; only = only_trans g.only r.only }
+    pub going_more : {table₂ level₂ v' : List ℕ} {t' : ℕ} → Removed os ts n h v table₂ level₂ v' t' → Going os ts n (begun n z) table₂ level₂ v' (h + 1) t'
+    going_more r = record { up = r.up; held = r.held; state = r.state; only = only_trans g.only r.only }
 
     -- none waits: both tables are written
-    pub going_done : h ≡ t → Decomposed os ts n up₁ level₁ w v
-    going_done e = record { tables = parted a.tree g.state e; only = only_trans begun_only g.only }
+    pub going_done : h ≡ t → Decomposed os ts n table₁ level₁ w v
+    going_done e = record { up = g.up; held = g.held; tables = parted a.tree g.state e; only = only_trans begun_only g.only }

@@ -1,11 +1,10 @@
 -- The visit of a component in work: looking through the list of one position, and from position to position.
 use Prim.Native.Nat.{ℕ, ◌+◌, ◌≤◌, ◌<◌}
 use native.Mathlib.Omega.{arith}
-use mathlib.Core.Path.{◌≡◌, refl, sym, ap, ◌∙◌, subst, subst₂}
+use mathlib.Core.Path.{◌≡◌, sym, ap, ◌∙◌, subst, subst₂}
 use mathlib.Core.Logic.{◌≢◌}
 use mathlib.Core.Bool.{Bool, true, false}
 use mathlib.Core.List.{List}
-use lib.Dec.{eqb}
 use lib.ListN.{length, set, length-set}
 use Rattle.sums.specs.Sum.{at}
 use Rattle.sums.proofs.Sums.{up_to}
@@ -13,29 +12,14 @@ use Rattle.paths.specs.Walk.{Stands}
 use Rattle.paths.specs.Rooted.{Spans}
 use Rattle.paths.specs.Route.{ptail}
 use Rattle.graph.specs.Lent.{list_of}
-use Rattle.graph.specs.Marks.{mark_of}
 use Rattle.graph.specs.Work.{Only}
 use Rattle.graph.proofs.Frames.{only_refl, only_trans, only_set, at_set_same, at_set_other}
 use Rattle.graph.proofs.Neighbours.{entry-below}
 use Rattle.visit.proofs.Growing.{upd, upd_here, upd_there}
-use Rattle.centroid.specs.Regions.{removed_from, queue_from, queue_at, from_at, size_at, regions_end}
-use Rattle.centroid.specs.Search.{LentTree, live, Spread, SpreadIn, EnterAsks, entered, Entered, gone, returning, new, ListAsks, ListAnswers}
-use Rattle.centroid.proofs.Living.{marked_gone, unmarked-live, live_behind}
+use Rattle.centroid.specs.Regions.{queue_from, queue_at, from_at, size_at, regions_end}
+use Rattle.centroid.specs.Search.{LentTree, live, Spread, SpreadIn, EnterAsks, entered, Entered, gone, returning, new, ListAsks}
+use Rattle.centroid.proofs.Living.{live_behind}
 use Rattle.centroid.proofs.Spreading.{spread_few, back_inside, spread_gone, spread_back, new_room, spread_new}
-
--- what the mark of x says when it is to be entered
-module _ {n x back i t : ℕ} {w : List ℕ} (a : EnterAsks n x back i t w) {b : Bool} (mark : b ≡ eqb (mark_of w (removed_from n) x) 1) where
-  -- x is removed
-  pub enter_gone : b ≡ true → Entered n x back i t w w t
-  enter_gone e = gone (marked_gone w n x a.vertex (sym mark ∙ e)) refl refl
-
-  -- x is left and new: there is room for it
-  pub enter_room : b ≡ false → x ≢ back → t < n
-  enter_room e ne = a.fresh (unmarked-live w n x a.vertex (sym mark ∙ e)) ne
-
-  -- and it is entered
-  pub enter_new : b ≡ false → x ≢ back → Entered n x back i t w (entered n x i t w) (t + 1)
-  enter_new e ne = new (unmarked-live w n x a.vertex (sym mark ∙ e)) ne refl refl
 
 -- what a new vertex changes in work
 module _ (n x i t : ℕ) (w : List ℕ) (room : regions_end n ≤ length w) (ht : t < n) where
@@ -185,16 +169,6 @@ module _ (os ts : List ℕ) (n i : ℕ) (w₀ : List ℕ) (tree : LentTree os ts
     entering_more {w'} {t'} (returning e same r) = subst₂ (λ (v : List ℕ) (m : ℕ). Entering os ts n i w₀ v (k + 1) m) (sym same) (sym r) (more_back e)
     entering_more {w'} {t'} (new e ne same r) = subst₂ (λ (v : List ℕ) (m : ℕ). Entering os ts n i w₀ v (k + 1) m) (sym same) (sym r) (more_new e ne)
 
-  -- the list was looked through
-  entering-done : {w : List ℕ} {k t : ℕ} → Entering os ts n i w₀ w k t → k ≡ length (list_of os ts (at w₀ (queue_at n i))) → ListAnswers os ts n i w₀ w t
-  entering-done {w} {k} {t} L e =
-      record {
-        spread = subst (λ (y : ℕ). SpreadIn os ts n (at w₀ (queue_from n)) w i y t) e L.spread;
-        inside = L.inside;
-        kept = L.spread.queue i L.inside ∙ L.here;
-        only = L.only;
-      }
-
 -- the positions that are read first
 pub asks_few : {os ts : List ℕ} {n i t : ℕ} {w : List ℕ} → ListAsks os ts n i t w → (i < n) × (at w (from_at n i) < n)
 asks_few {os} {ts} {n} {i} {t} {w} a =
@@ -218,7 +192,7 @@ entering_start {os} {ts} {n} {i} {t} {w} a =
     }
 
 -- the same over the list l as the code holds it
-module _ (os ts : List ℕ) (n i t₀ : ℕ) (w₀ l : List ℕ) (a : ListAsks os ts n i t₀ w₀) (e : l ≡ list_of os ts (at w₀ (queue_at n i))) where
+module _ {os ts : List ℕ} {n i t₀ : ℕ} {w₀ l : List ℕ} (a : ListAsks os ts n i t₀ w₀) (e : l ≡ list_of os ts (at w₀ (queue_at n i))) where
   -- the next entry can be entered
   pub list_asks : {w : List ℕ} {k t : ℕ} → Entering os ts n i w₀ w k t → k < length l → EnterAsks n (at l k) (at w₀ (queue_at n (at w₀ (from_at n i)))) i t w
   list_asks {w} {k} {t} =
@@ -231,7 +205,3 @@ module _ (os ts : List ℕ) (n i t₀ : ℕ) (w₀ l : List ℕ) (a : ListAsks o
   list_more {w} {w'} {k} {t} {t'} =
       subst (λ (m : List ℕ). Entering os ts n i w₀ w k t → k < length m → Entered n (at m k) (at w₀ (queue_at n (at w₀ (from_at n i)))) i t w w' t' → Entering os ts n i w₀ w' (k + 1) t') (sym e)
       (λ L hk. entering_more os ts n i w₀ a.tree a.room L hk)
-
-  -- all entries were looked at
-  pub list_done : {w : List ℕ} {k t : ℕ} → Entering os ts n i w₀ w k t → k ≡ length l → ListAnswers os ts n i w₀ w t
-  list_done L h = entering-done os ts n i w₀ a.tree a.room L (h ∙ ap length e)

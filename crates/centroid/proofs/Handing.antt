@@ -100,10 +100,6 @@ module _ (n t : ℕ) (w₀ : List ℕ) (a : PickAsks n t w₀) where
           only = only_wider (omega arith) (omega arith) H.only;
         }
 
-    -- the sizes that are left are no more than all
-    handing_small : at w (size_at n k) ≤ t
-    handing_small = (let e = H.whole in omega arith)
-
     module _ (less : 2 * at w (size_at n k) ≤ t) where
       -- the first position is heavy
       later : 0 < k
@@ -160,22 +156,10 @@ module _ (n t : ℕ) (w₀ : List ℕ) (a : PickAsks n t w₀) where
             only = only_trans H.only (only_set w (size_at n f) _ (omega arith) (omega arith));
           }
 
-  -- nothing is left: the first position was heavy
-  pub handing_never : {w : List ℕ} → Handing n t w₀ w 0 → ⊥
-  handing_never H = (let e = H.whole in let s = a.some in omega arith)
-
 -- the same as the code counts down
-module _ (n t : ℕ) (w₀ : List ℕ) (a : PickAsks n t w₀) (left : ℕ) (w : List ℕ) (H : Handing n t w₀ w left) (some : 0 < left) where
+module _ {n t : ℕ} {w₀ : List ℕ} (a : PickAsks n t w₀) {left : ℕ} {w : List ℕ} (H : Handing n t w₀ w left) (some : 0 < left) where
   last : Handing n t w₀ w (suc (left - 1))
   last = subst (Handing n t w₀ w) (let e : left ≡ suc (left - 1) = omega arith in e) H
-
-  -- the next position is one of n
-  pub down_inside : left - 1 < n
-  down_inside = (let h = H.within in let f = a.few in omega arith)
-
-  -- its size is at most all
-  pub down_small : at w (size_at n (left - 1)) ≤ t
-  down_small = handing_small n t w₀ a (left - 1) w last
 
   -- it is heavy
   pub down_found : t < 2 * at w (size_at n (left - 1)) → Picked n t w₀ w (at w (queue_at n (left - 1)))
@@ -183,7 +167,7 @@ module _ (n t : ℕ) (w₀ : List ℕ) (a : PickAsks n t w₀) (left : ℕ) (w :
 
   -- it is not heavy: it was met from one of n
   pub down-from : 2 * at w (size_at n (left - 1)) ≤ t → at w (from_at n (left - 1)) < n
-  down-from less = (let h = from_earlier n t w₀ a (left - 1) w last less in let i = down_inside in omega arith)
+  down-from less = omega (arith, from_earlier n t w₀ a (left - 1) w last less, H.within, a.few)
 
   -- the two sizes together are at most all
   pub down_fits : 2 * at w (size_at n (left - 1)) ≤ t → at w (size_at n (at w (from_at n (left - 1)))) + at w (size_at n (left - 1)) ≤ t

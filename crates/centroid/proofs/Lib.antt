@@ -18,4 +18,3 @@ pub mod Stepping
 pub mod Taking
 pub mod Decomposing
 pub mod Calling
-pub mod Reading

@@ -16,10 +16,6 @@ use Rattle.centroid.specs.Search.{live}
 pub live_mark : (w : List ℕ) (n y : ℕ) → y < n → live w n y ≡ not (eqb (mark_of w (removed_from n) y) 1)
 live_mark w n y h = rw (lt-ltb y n h, live) refl
 
--- a marked vertex is removed
-pub marked_gone : (w : List ℕ) (n y : ℕ) → y < n → eqb (mark_of w (removed_from n) y) 1 ≡ true → live w n y ≡ false
-marked_gone w n y h e = live_mark w n y h ∙ ap not e
-
 -- one without a mark is left
 pub unmarked-live : (w : List ℕ) (n y : ℕ) → y < n → eqb (mark_of w (removed_from n) y) 1 ≡ false → live w n y ≡ true
 unmarked-live w n y h e = live_mark w n y h ∙ ap not e

@@ -43,8 +43,8 @@ extended t m g f =
       new = λ i h. rw (le-ltb (t + i) t (omega arith), extend) (ap g (let e : t + i - t ≡ i = omega arith in e));
     }
 
-module _ {os ts : List ℕ} {n h t : ℕ} {up level w : List ℕ} (a : RemoveAsks os ts n h t up level w) where
-  now_parting : Parting n (list_of os ts) (ptail a.tree.par a.tree.dep) (λ j. at w (start_at n j)) (λ j. at w (parent_at n j)) (λ j. at w (level_at n j)) a.state.lv (at up) h t
+module _ {os ts : List ℕ} {n h t : ℕ} {table level w : List ℕ} (a : RemoveAsks os ts n h t table level w) where
+  now_parting : Parting n (list_of os ts) (ptail a.tree.par a.tree.dep) (λ j. at w (start_at n j)) (λ j. at w (parent_at n j)) (λ j. at w (level_at n j)) a.state.lv (at a.up) h t
   now_parting = a.state.parting a.tree.par a.tree.dep a.tree.spans
 
   -- positions of entries that wait are below n
@@ -114,11 +114,11 @@ module _ {os ts : List ℕ} {n h t : ℕ} {up level w : List ℕ} (a : RemoveAsk
         }
 
     -- the row of the centroid in the table of parents
-    row : Changed c (at w (parent_at n h)) (at up) (at (set up c (at w (parent_at n h))))
+    row : Changed c (at w (parent_at n h)) (at a.up) (at (set a.up c (at w (parent_at n h))))
     row =
         record {
-          here = at_set_same up c (at w (parent_at n h)) (let b = f.below in let l = a.state.up_long in omega arith);
-          there = λ y ne. at_set_other up c (at w (parent_at n h)) y ne;
+          here = at_set_same a.up c (at w (parent_at n h)) (let b = f.below in let l = a.state.up_long in omega arith);
+          there = λ y ne. at_set_other a.up c (at w (parent_at n h)) y ne;
         }
 
     -- there is room for the new starts
@@ -142,14 +142,16 @@ module _ {os ts : List ℕ} {n h t : ℕ} {up level w : List ℕ} (a : RemoveAsk
 
     -- the entry was taken
     pub taken : {w₃ : List ℕ} {r : ℕ} → Added os ts n c (at w (level_at n h) + 1) t w₂ w₃ r
-        → Removed os ts n h w (set up c (at w (parent_at n h))) (set level c (at w (level_at n h))) w₃ r
+        → Removed os ts n h w (set table c (at w (parent_at n h))) (set level c (at w (level_at n h))) w₃ r
     taken {w₃} {r} d =
         let few = take_few in
         let K : List ℕ = left_of os ts n c w₂ in
         record {
+          up = set a.up c (at w (parent_at n h));
+          held = λ e. ap (λ (x : List ℕ). set x c (at w (parent_at n h))) (a.held (sym (length-set table c (at w (parent_at n h))) ∙ e));
           state = record {
             lv = upd a.state.lv c (at w (level_at n h));
-            up_long = length-set up c (at w (parent_at n h)) ∙ a.state.up_long;
+            up_long = length-set a.up c (at w (parent_at n h)) ∙ a.state.up_long;
             level_long = length-set level c (at w (level_at n h)) ∙ a.state.level_long;
             levels = λ y hy l. equal_or_not y c
                 (λ e.
@@ -162,7 +164,7 @@ module _ {os ts : List ℕ} {n h t : ℕ} {up level w : List ℕ} (a : RemoveAsk
             marks = λ y hy. ap (λ (g : ℕ → Bool). g y) (live_kept n w₂ w₃ (λ i p q. d.only.after i p)) ∙ marks_now y hy;
             parting = λ par dep S.
                 subst (Parting n (list_of os ts) (ptail par dep) (λ j. at w₃ (start_at n j)) (λ j. at w₃ (parent_at n j)) (λ j. at w₃ (level_at n j))
-                (upd a.state.lv c (at w (level_at n h))) (at (set up c (at w (parent_at n h)))) (h + 1)) (sym d.count)
+                (upd a.state.lv c (at w (level_at n h))) (at (set a.up c (at w (parent_at n h)))) (h + 1)) (sym d.count)
                 (parting_more S (a.state.parting par dep S) a.some f.below (centroid par dep S) changed row beside
                 (record { old = λ j hj. d.old_starts j hj ∙ kept (start_at n j) (omega arith); new = d.starts })
                 (record { old = λ j hj. d.old_parents j hj ∙ kept (parent_at n j) (omega arith); new = d.parents })

@@ -90,26 +90,35 @@ pub record Added (os ts : List ℕ) (n c l t : ℕ) (w w' : List ℕ) (r : ℕ) 
   pub old_levels : (j : ℕ) → j < t → at w' (level_at n j) ≡ at w (level_at n j)
   pub only : Only 0 (removed_from n) w w'
 
+-- the parents in a lent table, where it has room for them; else they are written nowhere
+abbrev pub HeldIn : ℕ → (table up : List ℕ) → Type 0
+HeldIn n table up = length table ≡ n → table ≡ up
+
 -- the first entry that waits is to be taken
-pub record RemoveAsks (os ts : List ℕ) (n h t : ℕ) (up level w : List ℕ) : Type 0 where
+pub record RemoveAsks (os ts : List ℕ) (n h t : ℕ) (table level w : List ℕ) : Type 0 where
   pub tree : LentTree os ts n
   pub room : regions_end n ≤ length w
   pub some : h < t
+  pub up : List ℕ
+  pub held : HeldIn n table up
   pub state : PartingIn os ts n up level w h t
 
-pub record Removed (os ts : List ℕ) (n h : ℕ) (w : List ℕ) (up' level' w' : List ℕ) (t' : ℕ) : Type 0 where
-  pub state : PartingIn os ts n up' level' w' (h + 1) t'
+pub record Removed (os ts : List ℕ) (n h : ℕ) (w : List ℕ) (table' level' w' : List ℕ) (t' : ℕ) : Type 0 where
+  pub up : List ℕ
+  pub held : HeldIn n table' up
+  pub state : PartingIn os ts n up level' w' (h + 1) t'
   pub only : Only 0 (regions_end n) w w'
 
--- a tree and tables of its length are to be decomposed
-pub record DecomposeAsks (os ts : List ℕ) (n : ℕ) (up level w : List ℕ) : Type 0 where
+-- a tree is to be decomposed, with a table of its length for the levels
+pub record DecomposeAsks (os ts : List ℕ) (n : ℕ) (level w : List ℕ) : Type 0 where
   pub tree : LentTree os ts n
-  pub up_long : length up ≡ n
   pub level_long : length level ≡ n
   pub room : regions_end n ≤ length w
 
-pub record Decomposed (os ts : List ℕ) (n : ℕ) (up' level' w w' : List ℕ) : Type 0 where
-  pub tables : DecompositionOf n (list_of os ts) up' level'
+pub record Decomposed (os ts : List ℕ) (n : ℕ) (table' level' w w' : List ℕ) : Type 0 where
+  pub up : List ℕ
+  pub held : HeldIn n table' up
+  pub tables : DecompositionOf n (list_of os ts) up level'
   pub only : Only 0 (regions_end n) w w'
 
 -- the tests 1 and 2 were passed

@@ -1,4 +1,5 @@
 -- Laws of the climb: one look of it in each case, and the climb from a state of it.
+use Rattle.std.specs.Prelude.{Ok, Err}
 use Prim.Native.Nat.{ℕ, zero, suc, ◌+◌, ◌-◌, ◌≤◌, ◌<◌}
 use native.Mathlib.Omega.{arith}
 use native.Mathlib.Decide.{dec_lt}
@@ -13,12 +14,12 @@ use Rattle.tables.specs.Tables.{Six}
 use Rattle.answers.specs.Choice.{pick}
 use Rattle.answers.proofs.Choices.{pick_same}
 use Rattle.climb.specs.Sound.{Stood, On, Unsound, stand_on}
-use Rattle.climb.specs.Climbing.{Ascent, strays, meets, u_leaves, v_leaves, above, look, ascending, ascent, end_of, climb_to}
+use Rattle.climb.specs.Climbing.{Ascent, strays, meets, u_leaves, v_leaves, above, look, ascending, ascent, end_of, Climbed, climb_to}
 use Rattle.climb.specs.Inner.{climb_start, u_moved, v_moved}
 use Rattle.climb.specs.declared.places.Place.{Place}
 use Rattle.climb.specs.declared.places.Climb.{Climb}
-use Rattle.climb.specs.declared.places.Climbed.{Climbed}
-use Rattle.climb.specs.declared.places.Climbed.TheVariants.{Met, Lost}
+use Rattle.answers.specs.declared.answer.Refusal.{Refusal}
+use Rattle.answers.specs.declared.answer.Refusal.TheVariants.{BadTable}
 
 -- Leaving a chain.
 
@@ -113,10 +114,10 @@ module _ (n : ℕ) (t : Six) (c : Climb) where
 -- Where it ends, with the chains that were left before.
 
 abbrev end_at : (p q : Place) (i j : ℕ) → Climbed
-end_at p q i j = Met (record { u = p; v = q; u_count = i; v_count = j })
+end_at p q i j = Ok (record { u = p; v = q; u_count = i; v_count = j })
 
 abbrev end_from : (i j : ℕ) → Ascent → Climbed
-end_from i j strays = Lost
+end_from i j strays = Err BadTable
 end_from i j (meets us vs p q) = end_at p q (i + length us) (j + length vs)
 
 same_counts : (p q : Place) {i j k l : ℕ} → i ≡ k → j ≡ l → end_at p q i j ≡ end_at p q k l
@@ -138,10 +139,10 @@ unfoldable pub climb_from : ℕ → Six → Climb → Climbed
 climb_from n t c = end_from c.u_count c.v_count (ascent_from n t c)
 
 abbrev pub climb_by : (Place → Climbed) → Stood → Climbed
-climb_by f s = elim s [ On r ↦ f r | Unsound ↦ Lost ]
+climb_by f s = elim s [ On r ↦ f r | Unsound ↦ Err BadTable ]
 
 module _ (n : ℕ) (t : Six) (c : Climb) where
-  pub climb_met : c.u.head ≡ c.v.head → climb_from n t c ≡ Met c
+  pub climb_met : c.u.head ≡ c.v.head → climb_from n t c ≡ Ok c
   unfolding climb_from
   climb_met e = ap (end_from c.u_count c.v_count) (ascent_met n t c e) ∙ same_counts c.u c.v (omega arith) (omega arith)
 
@@ -188,10 +189,19 @@ module _ (n : ℕ) (t : Six) (u v : ℕ) where
   unfolding climb_to climb_from
   climb-from {p} {q} e f = ap end_of (ascent-from e f) ∙ end_none (ascent_from n t (climb_start p q))
 
-  pub climb_off_u : stand_on n t u ≡ Unsound → Lost ≡ climb_to n t u v
+  pub climb_off_u : stand_on n t u ≡ Unsound → Err BadTable ≡ climb_to n t u v
   unfolding climb_to
   climb_off_u e = ap end_of (sym (ascent_off_u e))
 
-  pub climb_off_v : stand_on n t v ≡ Unsound → Lost ≡ climb_to n t u v
+  pub climb_off_v : stand_on n t v ≡ Unsound → Err BadTable ≡ climb_to n t u v
   unfolding climb_to
   climb_off_v e = ap end_of (sym (ascent_off_v e))
+
+-- a climb is refused for bad tables, if at all
+pub climb_bad : (n : ℕ) (t : Six) (u v : ℕ) {e : Refusal} → climb_to n t u v ≡ Err e → e ≡ BadTable
+unfolding climb_to
+climb_bad n t u v f = ended (ascent n t u v) f
+  where
+    ended : (a : Ascent) {e : Refusal} → end_of a ≡ Err e → e ≡ BadTable
+    ended strays f = cc
+    ended (meets us vs p q) f = cc

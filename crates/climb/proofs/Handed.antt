@@ -1,61 +1,57 @@
 -- Laws for the callers of a climb: from what was reached at u and v, how the climb from u and v ends.
+use Rattle.std.specs.Prelude.{Ok, Err}
 use Prim.Native.Nat.{ℕ, ◌≤◌}
-use native.Mathlib.Omega.{arith}
-use mathlib.Core.Path.{◌≡◌, sym, ap, ◌∙◌, subst}
+use mathlib.Core.Path.{◌≡◌, refl, sym, ap, ◌∙◌, subst}
 use mathlib.Core.Bool.{true, false}
-use mathlib.Core.List.{List}
-use lib.ListN.{length}
-use Rattle.sums.specs.Sum.{at}
 use Rattle.answers.specs.Limits.{no_parent}
-use Rattle.tables.specs.Tables.{six}
-use Rattle.climb.specs.Climbing.{climb_to, ancestor_of}
-use Rattle.climb.specs.Inner.{Even, hangs?, settled, ReachedOn, ClimbsFrom, ClimbedTo}
+use Rattle.tables.specs.Tables.{Six}
+use Rattle.answers.specs.declared.answer.Refusal.{Refusal}
+use Rattle.answers.specs.declared.answer.Refusal.TheVariants.{BadTable}
+use Rattle.climb.specs.Asked.{size_of}
+use Rattle.climb.specs.Sound.{depth_in}
+use Rattle.climb.specs.Climbing.{Climbed, climb_to, ancestor_of}
+use Rattle.climb.specs.Inner.{Even, hangs?, ReachedOn, ClimbsFrom, ClimbedTo, Meets}
 use Rattle.climb.specs.declared.places.Place.{Place}
 use Rattle.climb.specs.declared.places.Climb.{Climb}
-use Rattle.climb.specs.declared.places.Reached.{Reached}
-use Rattle.climb.specs.declared.places.Climbed.{Climbed}
-use Rattle.climb.specs.declared.places.Climbed.TheVariants.{Met, Lost}
 use Rattle.answers.proofs.Choices.{pick_true, pick_false}
-use Rattle.climb.proofs.Reaching.{reached_vertex, reached_seat}
+use Rattle.climb.proofs.Climbs.{climb_off_u, climb_off_v}
+use Rattle.climb.proofs.Reaching.{reached_vertex, reached_seat, reached_off, reached_bad}
 
--- a bound on the ancestor's depth holds of the place that was found
-no_deeper : {w a : Place} {d : ℕ} → w ≡ a → a.depth ≤ d → w.depth ≤ d
-no_deeper {w} {a} {d} e h = subst (λ (q : Place). q.depth ≤ d) (sym e) h
+-- How a climb meets: lost on the way, under a head that does not hang, or under one that does.
+
+pub meets_off : {t : Six} {u v : ℕ} {e : Refusal} → ClimbedTo t u v (Err e) → Meets t u v (Err e)
+meets_off m = record { is = m.climb; u_low = λ c f. absurd (cc); v_low = λ c f. absurd (cc) }
+
+module _ {t : Six} {u v : ℕ} {c : Climb} (met : ClimbedTo t u v (Ok c)) where
+  pub meets_unhung : hangs? (size_of t) t c.u ≡ false → Meets t u v (Err BadTable)
+  meets_unhung e =
+      record { is = sym (pick_false (Ok c) (Err BadTable) e) ∙ met.climb; u_low = λ c f. absurd (cc); v_low = λ c f. absurd (cc) }
+
+  pub meets_on : hangs? (size_of t) t c.u ≡ true → Meets t u v (Ok c)
+  meets_on e = record { is = sym (pick_true (Ok c) (Err BadTable) e) ∙ met.climb; u_low = met.u_low; v_low = met.v_low }
 
 -- u and v were reached
-module _ (P D H I : List ℕ) {u v : ℕ} {a b : Reached} (at_u : ReachedOn P D H I u a) (on-u : a.sound ≡ true) (at-v : ReachedOn P D H I v b) (on-v : b.sound ≡ true) where
+module _ {t : Six} {u v : ℕ} {a b : Place} (at_u : ReachedOn t u (Ok a)) (at_v : ReachedOn t v (Ok b)) where
   -- so that one may climb from them
-  pub climbs-from : Even P D H I → length P ≤ no_parent → ClimbsFrom P D H I a.place b.place
-  climbs-from even small =
-      record { even = even; small = small; on_p = reached_seat P D H I at_u on-u; on_q = reached_seat P D H I at-v on-v }
+  pub climbs-from : Even t → size_of t ≤ no_parent → ClimbsFrom t a b
+  climbs-from even small = record { even = even; small = small; on_p = reached_seat at_u; on_q = reached_seat at_v }
 
-  -- the climb from there is the climb from u and v
-  pub climbed_there : {r : Climbed} → ClimbedTo P D H I a.place.vertex b.place.vertex r → ClimbedTo P D H I u v r
-  climbed_there {r} c =
-      subst (λ (x : ℕ). ClimbedTo P D H I x v r) (reached_vertex P D H I at_u on-u)
-      (subst (λ (y : ℕ). ClimbedTo P D H I a.place.vertex y r) (reached_vertex P D H I at-v on-v) c)
-
--- how it ends: lost on the way, met under a head that does not hang, or met
-module _ (P D H I : List ℕ) {u v : ℕ} {r : Climbed} (climbed : ClimbedTo P D H I u v r) where
-  pub climbed_off : r ≡ Lost → (o s : List ℕ) → climb_to (length P) (six P D H I o s) u v ≡ Lost
-  climbed_off e o s = sym (climbed.climb o s) ∙ ap (settled (length P) D I) e
-
-  module _ {c : Climb} (met : r ≡ Met c) where
-    pub climbed_unhung : hangs? (length P) D I c.u ≡ false → (o s : List ℕ) → climb_to (length P) (six P D H I o s) u v ≡ Lost
-    climbed_unhung e o s = sym (climbed.climb o s) ∙ (ap (settled (length P) D I) met ∙ pick_false (Met c) Lost e)
-
-    pub climbed_on : hangs? (length P) D I c.u ≡ true → (o s : List ℕ) → climb_to (length P) (six P D H I o s) u v ≡ Met c
-    climbed_on e o s = sym (climbed.climb o s) ∙ (ap (settled (length P) D I) met ∙ pick_true (Met c) Lost e)
+  -- they meet where u and v do
+  pub met_there : {r : Climbed} → Meets t a.vertex b.vertex r → Meets t u v r
+  met_there {r} m =
+      subst (λ (x : ℕ). Meets t x v r) (reached_vertex at_u) (subst (λ (y : ℕ). Meets t a.vertex y r) (reached_vertex at_v) m)
 
 -- the ancestor is no deeper than the two places
-module _ (P D H I : List ℕ) {p q : Place} (pre : ClimbsFrom P D H I p q)
-    {r : Climbed} (climbed : ClimbedTo P D H I p.vertex q.vertex r) {c : Climb} (met : r ≡ Met c) {w : Place} (is : w ≡ ancestor_of c) where
-  pub p_low : w.depth ≤ p.depth
-  p_low =
-      let d : p.depth ≡ at D p.vertex = ap (λ (x : Place). x.depth) pre.on_p.place in
-      omega (arith, no_deeper is (climbed.u_low c met))
+module _ {t : Six} {u v : ℕ} {c : Climb} (met : Meets t u v (Ok c)) {w : Place} (is : w ≡ ancestor_of c) where
+  pub u_deeper : w.depth ≤ depth_in t u
+  u_deeper = subst (λ (q : Place). q.depth ≤ depth_in t u) (sym is) (met.u_low c refl)
 
-  pub q_low : w.depth ≤ q.depth
-  q_low =
-      let d : q.depth ≡ at D q.vertex = ap (λ (x : Place). x.depth) pre.on_q.place in
-      omega (arith, no_deeper is (climbed.v_low c met))
+  pub v_deeper : w.depth ≤ depth_in t v
+  v_deeper = subst (λ (q : Place). q.depth ≤ depth_in t v) (sym is) (met.v_low c refl)
+
+-- where u or v was not reached, the climb from u and v is refused alike
+pub lost_u : {t : Six} {u : ℕ} (v : ℕ) {e : Refusal} → ReachedOn t u (Err e) → Err e ≡ climb_to (size_of t) t u v
+lost_u {t} {u} v f = ap Err (reached_bad f) ∙ climb_off_u (size_of t) t u v (reached_off f)
+
+pub lost_v : {t : Six} (u : ℕ) {v : ℕ} {e : Refusal} → ReachedOn t v (Err e) → Err e ≡ climb_to (size_of t) t u v
+lost_v {t} u {v} f = ap Err (reached_bad f) ∙ climb_off_v (size_of t) t u v (reached_off f)

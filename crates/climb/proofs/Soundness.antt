@@ -3,7 +3,6 @@ use Prim.Native.Nat.{ℕ, ◌+◌, ◌-◌, ◌≤◌, ◌<◌}
 use native.Mathlib.Omega.{arith}
 use mathlib.Core.Path.{◌≡◌, refl, sym, ap, ◌∙◌, subst}
 use mathlib.Core.Bool.{Bool, true, false}
-use mathlib.Core.List.{List}
 use lib.Dec.{eqb, leb, ltb}
 use borrow.Author.Tests.{ltb-true, leb-true, eqb-true, ne_eqb}
 use Rattle.sums.specs.Sum.{at}
@@ -16,17 +15,17 @@ use Rattle.climb.specs.declared.places.Place.{Place}
 use Rattle.answers.proofs.Choices.{pick-both, both_last, both_true}
 
 -- to be sound is to be seated under a head that hangs
-pub sound_split : (n : ℕ) (t : Six) (x : ℕ) → sound? n t x ≡ both (seated? n t x) (hangs? n t.depth t.id (place_of t x))
+pub sound_split : (n : ℕ) (t : Six) (x : ℕ) → sound? n t x ≡ both (seated? n t x) (hangs? n t (place_of t x))
 unfolding sound?
 sound_split n t x =
     both_last (ltb (head_in t x) n) (leb (depth_in t (head_in t x)) (depth_in t x)) (ltb (depth_in t x) n) (leb (id_in t (head_in t x)) (id_in t x)) (ltb (id_in t x) n)
-    (eqb (id_in t x - id_in t (head_in t x)) (depth_in t x - depth_in t (head_in t x))) (hangs? n t.depth t.id (place_of t x))
+    (eqb (id_in t x - id_in t (head_in t x)) (depth_in t x - depth_in t (head_in t x))) (hangs? n t (place_of t x))
 
 -- so a query stands there by the one test and then the other
-pub stand_split : (n : ℕ) (t : Six) (x : ℕ) → stand_on n t x ≡ pick (seated? n t x) (pick (hangs? n t.depth t.id (place_of t x)) (On (place_of t x)) Unsound) Unsound
+pub stand_split : (n : ℕ) (t : Six) (x : ℕ) → stand_on n t x ≡ pick (seated? n t x) (pick (hangs? n t (place_of t x)) (On (place_of t x)) Unsound) Unsound
 stand_split n t x =
     ap (λ (b : Bool). pick b (On (place_of t x)) Unsound) (sound_split n t x)
-    ∙ sym (pick-both (seated? n t x) (hangs? n t.depth t.id (place_of t x)) (On (place_of t x)) Unsound)
+    ∙ sym (pick-both (seated? n t x) (hangs? n t (place_of t x)) (On (place_of t x)) Unsound)
 
 -- what it tells of a place that its vertex is seated
 pub record Seated (n : ℕ) (p : Place) : Type 0 where
@@ -54,15 +53,15 @@ seated_place n t x e =
     }
 
 -- a head that hangs from a parent
-pub hangs-from : (n : ℕ) (D I : List ℕ) (up top first : ℕ) → hangs_from? n D I up top first ≡ true → (up < n) × ((at D up + 1 ≡ top) × (at I up < first))
-hangs-from n D I up top first e =
+pub hangs-from : (n : ℕ) (t : Six) (up top first : ℕ) → hangs_from? n t up top first ≡ true → (up < n) × ((depth_in t up + 1 ≡ top) × (id_in t up < first))
+hangs-from n t up top first e =
     let b = both_true (ltb up n) _ e in
-    let c = both_true (eqb (at D up + 1) top) _ b.1 in
-    (ltb-true up n b.0, (eqb-true (at D up + 1) top c.0, ltb-true (at I up) first c.1))
+    let c = both_true (eqb (depth_in t up + 1) top) _ b.1 in
+    (ltb-true up n b.0, (eqb-true (depth_in t up + 1) top c.0, ltb-true (id_in t up) first c.1))
 
 -- where a head has a parent, hanging is to hang from it
-pub hangs_up : (n : ℕ) (D I : List ℕ) (p : Place) → (p.up ≡ no_parent → ⊥) → hangs? n D I p ≡ hangs_from? n D I p.up p.top p.first
-hangs_up n D I p ne = rw (ne_eqb p.up no_parent ne)
+pub hangs_up : (n : ℕ) (t : Six) (p : Place) → (p.up ≡ no_parent → ⊥) → hangs? n t p ≡ hangs_from? n t p.up p.top p.first
+hangs_up n t p ne = rw (ne_eqb p.up no_parent ne)
 
 -- what soundness tells of the place of x
 sound_placed : (n : ℕ) (t : Six) (x : ℕ) → sound? n t x ≡ true → Placed n t.depth (place_of t x)
@@ -78,29 +77,29 @@ sound_placed n t x e =
       up_depth = λ ne. (up ne).1.0;
     }
   where
-    parts : (seated? n t x ≡ true) × (hangs? n t.depth t.id (place_of t x) ≡ true)
+    parts : (seated? n t x ≡ true) × (hangs? n t (place_of t x) ≡ true)
     parts = both_true (seated? n t x) _ (sym (sound_split n t x) ∙ e)
 
     up : ((place_of t x).up ≡ no_parent → ⊥) → ((place_of t x).up < n) × ((at t.depth (place_of t x).up + 1 ≡ (place_of t x).top) × (at t.id (place_of t x).up < (place_of t x).first))
-    up ne = hangs-from n t.depth t.id (place_of t x).up (place_of t x).top (place_of t x).first (sym (hangs_up n t.depth t.id (place_of t x) ne) ∙ parts.1)
+    up ne = hangs-from n t (place_of t x).up (place_of t x).top (place_of t x).first (sym (hangs_up n t (place_of t x) ne) ∙ parts.1)
 
 -- where a query stands on p, p is the place of a sound vertex
-stood : (b : Bool) (q : Place) {p : Place} → pick b (On q) Unsound ≡ On p → (b ≡ true) × (q ≡ p)
-stood true q e = (refl, cc)
-stood false q e = let z : ◌≡◌ {A = ℕ} 0 1 = cc in absurd (omega arith)
+fell_on : (b : Bool) (q : Place) {p : Place} → pick b (On q) Unsound ≡ On p → (b ≡ true) × (q ≡ p)
+fell_on true q e = (refl, cc)
+fell_on false q e = let z : ◌≡◌ {A = ℕ} 0 1 = cc in absurd (omega arith)
 
 -- where a query stands on x, it has read the place of x
 pub stood_place : (n : ℕ) (t : Six) (x : ℕ) {p : Place} → stand_on n t x ≡ On p → p ≡ place_of t x
-stood_place n t x e = sym (stood (sound? n t x) (place_of t x) e).1
+stood_place n t x e = sym (fell_on (sound? n t x) (place_of t x) e).1
 
 pub stood_placed : (n : ℕ) (t : Six) (x : ℕ) {p : Place} → stand_on n t x ≡ On p → Placed n t.depth p
 stood_placed n t x e =
-    let s = stood (sound? n t x) (place_of t x) e in
+    let s = fell_on (sound? n t x) (place_of t x) e in
     subst (Placed n t.depth) s.1 (sound_placed n t x s.0)
 
 -- standing tells whether a vertex is sound
 pub stood_sound : (n : ℕ) (t : Six) (x : ℕ) {p : Place} → stand_on n t x ≡ On p → sound? n t x ≡ true
-stood_sound n t x e = (stood (sound? n t x) (place_of t x) e).0
+stood_sound n t x e = (fell_on (sound? n t x) (place_of t x) e).0
 
 fallen : (b : Bool) (q : Place) → pick b (On q) Unsound ≡ Unsound → b ≡ false
 fallen true q e = let z : ◌≡◌ {A = ℕ} 0 1 = cc in absurd (omega arith)

@@ -1,5 +1,5 @@
 -- 01, "Sound entries": the climb of two ends until their heads are the same, on any tables.
-use Rattle.std.specs.Prelude.{ℕ, zero, suc, true, false, List, [], ◌∷◌, eqb, leb, length}
+use Rattle.std.specs.Prelude.{ℕ, zero, suc, true, false, List, [], ◌∷◌, eqb, leb, length, Result, Ok, Err}
 use Rattle.answers.specs.Limits.{no_parent}
 use Rattle.numbering.specs.Log.{log2}
 use Rattle.tables.specs.Tables.{Six}
@@ -7,8 +7,8 @@ use Rattle.answers.specs.Choice.{pick}
 use Rattle.climb.specs.Sound.{Stood, On, Unsound, stand_on}
 use Rattle.climb.specs.declared.places.Place.{Place}
 use Rattle.climb.specs.declared.places.Climb.{Climb}
-use Rattle.climb.specs.declared.places.Climbed.{Climbed}
-use Rattle.climb.specs.declared.places.Climbed.TheVariants.{Met, Lost}
+use Rattle.answers.specs.declared.answer.Refusal.{Refusal}
+use Rattle.answers.specs.declared.answer.Refusal.TheVariants.{BadTable}
 
 -- A climb strays, or both sides come to one chain, at p and q. `us` and `vs` are the places from which the u side and the v side left their chains, in
 -- the order in which each left them.
@@ -56,10 +56,13 @@ ascent n t u v =
       | Unsound ↦ strays
     ]
 
--- where a climb ends: the two places on one chain, and how many chains each side left
+-- where a climb ends: the two places on one chain, and how many chains each side left; a climb that strays is refused
+abbrev pub Climbed : Type 0
+Climbed = Result Climb Refusal
+
 abbrev pub end_of : Ascent → Climbed
-end_of strays = Lost
-end_of (meets us vs p q) = Met (record { u = p; v = q; u_count = length us; v_count = length vs })
+end_of strays = Err BadTable
+end_of (meets us vs p q) = Ok (record { u = p; v = q; u_count = length us; v_count = length vs })
 
 unfoldable pub climb_to : ℕ → Six → ℕ → ℕ → Climbed
 climb_to n t u v = end_of (ascent n t u v)

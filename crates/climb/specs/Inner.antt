@@ -1,18 +1,17 @@
--- What the contracts of inner functions cite: no reader of a query's meaning needs it. A function is lent the tables that it reads, and its answer
--- is the same whatever the others hold: o and s stand for `order` and `size`.
-use Rattle.std.specs.Prelude.{ℕ, ◌+◌, ◌-◌, ◌≤◌, ◌<◌, ◌≡◌, Bool, true, List, [], eqb, leb, ltb, length}
+-- What the contracts of inner functions cite: no reader of a query's meaning needs it. t is the six tables; n, where it is not said, is their length.
+use Rattle.std.specs.Prelude.{ℕ, ◌+◌, ◌-◌, ◌≤◌, ◌<◌, ◌≡◌, Bool, true, List, eqb, leb, ltb, length, Result, Ok, Err}
 use Rattle.sums.specs.Sum.{at}
 use Rattle.answers.specs.Limits.{no_parent}
 use Rattle.numbering.specs.Log.{log2}
-use Rattle.tables.specs.Tables.{Six, six}
+use Rattle.tables.specs.Tables.{Six}
 use Rattle.answers.specs.Choice.{pick, both}
+use Rattle.answers.specs.declared.answer.Refusal.{Refusal}
+use Rattle.answers.specs.declared.answer.Refusal.TheVariants.{BadTable}
+use Rattle.climb.specs.Asked.{size_of}
 use Rattle.climb.specs.Sound.{depth_in, head_in, id_in, sound?, place_of}
-use Rattle.climb.specs.Climbing.{climb_to, ancestor_of}
+use Rattle.climb.specs.Climbing.{Climbed, climb_to, ancestor_of}
 use Rattle.climb.specs.declared.places.Place.{Place}
 use Rattle.climb.specs.declared.places.Climb.{Climb}
-use Rattle.climb.specs.declared.places.Reached.{Reached}
-use Rattle.climb.specs.declared.places.Climbed.{Climbed}
-use Rattle.climb.specs.declared.places.Climbed.TheVariants.{Met, Lost}
 
 -- The state of a climb under way, with the number of chains that each side has left: as it begins, and after a move.
 abbrev pub climb_start : Place → Place → Climb
@@ -25,14 +24,10 @@ abbrev pub v_moved : Climb → Place → Climb
 v_moved c p = record { u = c.u; v = p; u_count = c.u_count; v_count = c.v_count + 1 }
 
 -- the four tables that a climb reads have one length
-pub record Even (P D H I : List ℕ) : Type 0 where
-  pub depth : length D ≡ length P
-  pub head : length H ≡ length P
-  pub id : length I ≡ length P
-
--- with nothing in `order` and `size`
-abbrev pub four : (P D H I : List ℕ) → Six
-four P D H I = six P D H I [] []
+pub record Even (t : Six) : Type 0 where
+  pub depth : length t.depth ≡ size_of t
+  pub head : length t.head ≡ size_of t
+  pub id : length t.id ≡ size_of t
 
 -- the tests of soundness on the numbers that were read: of a vertex of depth d and number i, whose head has the depth `top` and the number `first`
 abbrev pub chained? : (n d i top first : ℕ) → Bool
@@ -44,56 +39,57 @@ abbrev pub seated? : ℕ → Six → ℕ → Bool
 seated? n t x = both (ltb (head_in t x) n) (chained? n (depth_in t x) (id_in t x) (depth_in t (head_in t x)) (id_in t (head_in t x)))
 
 -- a head of such a depth and number hangs from `up`
-abbrev pub hangs_from? : (n : ℕ) (D I : List ℕ) (up top first : ℕ) → Bool
-hangs_from? n D I up top first = both (ltb up n) (both (eqb (at D up + 1) top) (ltb (at I up) first))
+abbrev pub hangs_from? : (n : ℕ) → Six → (up top first : ℕ) → Bool
+hangs_from? n t up top first = both (ltb up n) (both (eqb (depth_in t up + 1) top) (ltb (id_in t up) first))
 
 -- the head of p's chain has no parent and depth 0, or hangs from its parent
-abbrev pub hangs? : (n : ℕ) (D I : List ℕ) → Place → Bool
-hangs? n D I p = pick (eqb p.up no_parent) (eqb p.top 0) (hangs_from? n D I p.up p.top p.first)
+abbrev pub hangs? : (n : ℕ) → Six → Place → Bool
+hangs? n t p = pick (eqb p.up no_parent) (eqb p.top 0) (hangs_from? n t p.up p.top p.first)
 
-pub record Hangs (n : ℕ) (D I : List ℕ) : Type 0 where
-  pub depth : length D ≡ n
-  pub id : length I ≡ n
+pub record Hangs (t : Six) : Type 0 where
+  pub depth : length t.depth ≡ size_of t
+  pub id : length t.id ≡ size_of t
 
-pub record StandAsks (P D H I : List ℕ) (x : ℕ) : Type 0 where
-  pub even : Even P D H I
-  pub vertex : x < length P
+pub record StandAsks (t : Six) (x : ℕ) : Type 0 where
+  pub even : Even t
+  pub vertex : x < size_of t
 
 -- x has the depth d and the number i
-pub record ReadsHead (P D H I : List ℕ) (x d i : ℕ) : Type 0 where
-  pub even : Even P D H I
-  pub vertex : x < length P
-  pub depth : d ≡ at D x
-  pub id : i ≡ at I x
-  pub depth_below : d < length P
-  pub id_below : i < length P
+pub record ReadsHead (t : Six) (x d i : ℕ) : Type 0 where
+  pub even : Even t
+  pub vertex : x < size_of t
+  pub depth : d ≡ depth_in t x
+  pub id : i ≡ id_in t x
+  pub depth_below : d < size_of t
+  pub id_below : i < size_of t
 
--- x was reached where the test passes
-pub record Reach (P D H I : List ℕ) (x : ℕ) (test : Bool) (r : Reached) : Type 0 where
-  pub sound : r.sound ≡ test
-  pub place : r.sound ≡ true → r.place ≡ place_of (four P D H I) x
+-- x with what was read of it where the test passes, and else a refusal
+abbrev pub reach : Bool → Six → ℕ → Result Place Refusal
+reach test t x = pick test (Ok (place_of t x)) (Err BadTable)
 
-abbrev pub ReachedOn : (P D H I : List ℕ) → ℕ → Reached → Type 0
-ReachedOn P D H I x r = Reach P D H I x (seated? (length P) (four P D H I) x) r
+-- where x is sound but that its head may not hang
+pub record ReachedOn (t : Six) (x : ℕ) (r : Result Place Refusal) : Type 0 where
+  pub is : r ≡ reach (seated? (size_of t) t x) t x
 
-abbrev pub StoodOn : (P D H I : List ℕ) → ℕ → Reached → Type 0
-StoodOn P D H I x r = (o s : List ℕ) → Reach P D H I x (sound? (length P) (six P D H I o s) x) r
+-- where x is sound
+pub record StoodOn (t : Six) (x : ℕ) (r : Result Place Refusal) : Type 0 where
+  pub is : r ≡ reach (sound? (size_of t) t x) t x
 
 -- p is what was read of its vertex, which is sound but that its head may not hang
-pub record Seat (P D H I : List ℕ) (p : Place) : Type 0 where
-  pub place : p ≡ place_of (four P D H I) p.vertex
-  pub seated : seated? (length P) (four P D H I) p.vertex ≡ true
+pub record Seat (t : Six) (p : Place) : Type 0 where
+  pub place : p ≡ place_of t p.vertex
+  pub seated : seated? (size_of t) t p.vertex ≡ true
 
-pub record Rests (P D H I : List ℕ) (p : Place) : Type 0 where
-  pub even : Even P D H I
-  pub seat : Seat P D H I p
+pub record Rests (t : Six) (p : Place) : Type 0 where
+  pub even : Even t
+  pub seat : Seat t p
 
 -- the parent of p's head was reached: the head hangs from it
-abbrev pub above? : (P D H I : List ℕ) → Place → Bool
-above? P D H I p = both (hangs_from? (length P) D I p.up p.top p.first) (seated? (length P) (four P D H I) p.up)
+abbrev pub above? : Six → Place → Bool
+above? t p = both (hangs_from? (size_of t) t p.up p.top p.first) (seated? (size_of t) t p.up)
 
-abbrev pub ReachedAbove : (P D H I : List ℕ) → Place → Reached → Type 0
-ReachedAbove P D H I p r = Reach P D H I p.up (above? P D H I p) r
+pub record ReachedAbove (t : Six) (p : Place) (r : Result Place Refusal) : Type 0 where
+  pub is : r ≡ reach (above? t p) t p.up
 
 -- what soundness says of the place where one stands
 pub record Placed (n : ℕ) (D : List ℕ) (p : Place) : Type 0 where
@@ -105,27 +101,37 @@ pub record Placed (n : ℕ) (D : List ℕ) (p : Place) : Type 0 where
   pub up_below : (p.up ≡ no_parent → ⊥) → p.up < n
   pub up_depth : (p.up ≡ no_parent → ⊥) → at D p.up + 1 ≡ p.top
 
-pub record LeaveAsks (P D H I : List ℕ) (p : Place) (left : ℕ) : Type 0 where
-  pub rests : Rests P D H I p
+pub record LeaveAsks (t : Six) (p : Place) (left : ℕ) : Type 0 where
+  pub rests : Rests t p
   pub few : left < 64
 
-abbrev pub Left : (P D H I : List ℕ) → Place → ℕ → Reached → Type 0
-Left P D H I p left r = Reach P D H I p.up (both (ltb left (log2 (length P))) (above? P D H I p)) r
+-- p's chain is left while one more may be
+abbrev pub leaves? : Six → Place → ℕ → Bool
+leaves? t p left = both (ltb left (log2 (size_of t))) (above? t p)
+
+pub record Left (t : Six) (p : Place) (left : ℕ) (r : Result Place Refusal) : Type 0 where
+  pub is : r ≡ reach (leaves? t p left) t p.up
 
 -- p and q were reached; no vertex is the number that says "no parent"
-pub record ClimbsFrom (P D H I : List ℕ) (p q : Place) : Type 0 where
-  pub even : Even P D H I
-  pub small : length P ≤ no_parent
-  pub on_p : Seat P D H I p
-  pub on_q : Seat P D H I q
+pub record ClimbsFrom (t : Six) (p q : Place) : Type 0 where
+  pub even : Even t
+  pub small : size_of t ≤ no_parent
+  pub on_p : Seat t p
+  pub on_q : Seat t q
 
 -- how a climb ends once the head of the last chain was seen to hang, or not
-abbrev pub settled : (n : ℕ) (D I : List ℕ) → Climbed → Climbed
-settled n D I (Met c) = pick (hangs? n D I c.u) (Met c) Lost
-settled n D I Lost = Lost
+abbrev pub settled : (n : ℕ) → Six → Climbed → Climbed
+settled n t (Ok c) = pick (hangs? n t c.u) (Ok c) (Err BadTable)
+settled n t (Err r) = Err r
 
 -- a climb that ends is no deeper than where it began
-pub record ClimbedTo (P D H I : List ℕ) (u v : ℕ) (r : Climbed) : Type 0 where
-  pub climb : (o s : List ℕ) → settled (length P) D I r ≡ climb_to (length P) (six P D H I o s) u v
-  pub u_low : (c : Climb) → r ≡ Met c → (ancestor_of c).depth ≤ at D u
-  pub v_low : (c : Climb) → r ≡ Met c → (ancestor_of c).depth ≤ at D v
+pub record ClimbedTo (t : Six) (u v : ℕ) (r : Climbed) : Type 0 where
+  pub climb : settled (size_of t) t r ≡ climb_to (size_of t) t u v
+  pub u_low : (c : Climb) → r ≡ Ok c → (ancestor_of c).depth ≤ depth_in t u
+  pub v_low : (c : Climb) → r ≡ Ok c → (ancestor_of c).depth ≤ depth_in t v
+
+-- the climb from u and v, with every test: where it ends, the ancestor is no deeper than either
+pub record Meets (t : Six) (u v : ℕ) (r : Climbed) : Type 0 where
+  pub is : r ≡ climb_to (size_of t) t u v
+  pub u_low : (c : Climb) → r ≡ Ok c → (ancestor_of c).depth ≤ depth_in t u
+  pub v_low : (c : Climb) → r ≡ Ok c → (ancestor_of c).depth ≤ depth_in t v

@@ -15,14 +15,6 @@ pub struct Place {
     pub up: usize,
 }
 
-// What was found where a vertex was reached: where it is not sound, the numbers of the place mean nothing. An enum would say so better, but the
-// compiler then keeps the place in memory and not in registers, and a climb takes a third more instructions.
-#[derive(Clone, Copy)]
-pub struct Reached {
-    pub sound: bool,
-    pub place: Place,
-}
-
 // A climb from two ends, with the number of chains that each side has left.
 #[derive(Clone, Copy)]
 pub struct Climb {
@@ -30,12 +22,6 @@ pub struct Climb {
     pub v: Place,
     pub u_count: usize,
     pub v_count: usize,
-}
-
-#[derive(Clone, Copy)]
-pub enum Climbed {
-    Met(Climb),
-    Lost,
 }
 
 impl Climb {

@@ -3,7 +3,7 @@ use Prim.Native.Nat.{ℕ, ◌+◌, ◌≤◌, ◌<◌, ◌^◌}
 use native.Mathlib.Omega.{arith}
 use native.Mathlib.Nat.{le_trans, le_of_eq, lt_of_le_of_lt, mul-le-mul_right}
 use mathlib.Core.Path.{◌≡◌, refl}
-use mathlib.Core.Logic.{◌≢◌, inl, inr}
+use mathlib.Core.Logic.{inl, inr}
 use mathlib.Core.List.{List, [], ◌∷◌}
 use lib.ListN.{length}
 use Rattle.sums.specs.Sum.{at}
@@ -16,8 +16,8 @@ use Rattle.graph.specs.Lent.{vertices}
 use Rattle.graph.specs.Validation.{room_of, graph_tests}
 use Rattle.graph.specs.Steps.{Begun}
 use Rattle.graph.specs.Work.{Only, Zeroed}
-use Rattle.graph.proofs.Frames.{only_refl, only_trans, only_wider}
-use Rattle.graph.proofs.Passed.{AllPassed, done_exactly, first-front, first_back, tests-joined, passed_sound}
+use Rattle.graph.proofs.Frames.{only_trans, only_wider}
+use Rattle.graph.proofs.Passed.{AllPassed, done_exactly, first_back, tests-joined, passed_sound}
 use Rattle.graph.proofs.Calling.{whole_call}
 use Rattle.validate.specs.Judged.{Judged}
 use Rattle.centroid.specs.Regions.{level_of_at}
@@ -31,140 +31,121 @@ use Rattle.components.specs.Levels.{total_in, FindAsks, LevelsFound, TotalAsks}
 use Rattle.components.specs.Listing.{AllAsks, AllListed, GraphListed}
 use Rattle.components.proofs.Held.{levels_at, total_levels}
 
-module _ (os ts vs ds bs ss w : List ℕ) (b : Begun os ts w) where
-  -- the table of starts is too short
-  pub no_starts : length ss < vertices os + 1 → GraphListed os ts vs ds bs ss w vs ds bs ss w no_room
-  no_starts h = record {
-    code = inl ((λ r. omega arith), refl);
-    written = λ e. absurd (omega arith);
-    refused = λ ne. refl;
-    only = only_refl 0 (room_of os ts) w;
-  }
+-- an accepted graph
+module _ {os ts w : List ℕ} (b : Begun os ts w) {w₁ : List ℕ} (j : Judged os ts 0 w w₁ done) where
+  -- the tests 3 to 8 are passed
+  judged : AllPassed (graph_tests os ts 0)
+  judged = (done_exactly (graph_tests os ts 0) (omega arith) j.code).0 refl
 
-  module _ (starts : vertices os + 1 ≤ length ss) {w₁ : List ℕ} {c : ℕ} (j : Judged os ts 0 w w₁ c) where
-    -- one of the tests 3 to 8 refuses
-    pub not_tree : c ≢ done → GraphListed os ts vs ds bs ss w vs ds bs ss w₁ c
-    not_tree ne = record {
-      code = inr (starts, first-front (graph_tests os ts 0) (test no_room (Fitting os ts vs ds bs) ∷ []) j.code ne);
-      written = λ e. absurd (ne e);
-      refused = λ e. refl;
-      only = j.only;
-    }
+  -- so the graph is a tree
+  passed : Passed os ts
+  passed = sound_rooted (passed_sound os ts 0 judged)
 
-    module _ (e : c ≡ done) where
-      -- the tests 3 to 8 are passed
-      judged : AllPassed (graph_tests os ts 0)
-      judged = (done_exactly (graph_tests os ts 0) (omega arith) j.code).0 e
+  -- the levels can be found
+  pub tree_asks : FindAsks os ts (vertices os) w₁
+  tree_asks = record { tree = lent_tree b.sized j refl; room = omega (arith, b.room, j.only.same_length) }
 
-      -- so the graph is a tree
-      passed : Passed os ts
-      passed = sound_rooted (passed_sound os ts 0 judged)
+  module _ {w₂ : List ℕ} (f : LevelsFound os ts (vertices os) w₁ w₂) where
+    -- no level exceeds the most chains
+    level_low : (v : ℕ) → v < vertices os → at w₂ (level_of_at (vertices os) v) ≤ most_chains
+    level_low v hv =
+        omega (
+          arith,
+          level_bound passed.listed.spans f.decomposition hv,
+          chains_few (vertices os) b.sized.some_vertex b.sized.few_vertices,
+          levels_at (vertices os) w₂ v hv,
+        )
 
-      -- the code once the lists decide
-      last : (d : ℕ) → First (test no_room (Fitting os ts vs ds bs) ∷ []) d
-          → First (test no_room (vertices os + 1 ≤ length ss) ∷ list_tests os ts vs ds bs) d
-      last d f = inr (starts, first_back (graph_tests os ts 0) (test no_room (Fitting os ts vs ds bs) ∷ []) d judged f)
+    -- so their sum can be taken
+    pub total_asks : TotalAsks (vertices os) w₂
+    total_asks = record { few = b.sized.few_vertices; room = omega (arith, b.room, j.only.same_length, f.only.same_length); low = level_low }
 
-      -- the levels can be found
-      pub tree_asks : FindAsks os ts (vertices os) w₁
-      tree_asks = record { tree = lent_tree b.sized j e; room = (let r = b.room in let l = j.only.same_length in omega arith) }
+    -- and is small
+    total_small : total_in (vertices os) w₂ < 2 ^ 32
+    total_small =
+        let n : ℕ = vertices os in
+        let m = sum_mono n (λ v. at w₂ (level_of_at n v) + 1) (λ v. most_chains + 1) (λ v hv. omega (arith, level_low v hv)) in
+        lt_of_le_of_lt
+        (le_trans m (le_trans (le_of_eq (sum_const n (most_chains + 1))) (mul-le-mul_right (most_chains + 1) b.sized.few_vertices)))
+        totals_small
 
-      module _ {w₂ : List ℕ} (f : LevelsFound os ts (vertices os) w₁ w₂) where
-        -- no level exceeds the most chains
-        level_low : (v : ℕ) → v < vertices os → at w₂ (level_of_at (vertices os) v) ≤ most_chains
-        level_low v hv =
-            let l = (level_bound passed.listed.spans f.decomposition hv).1 in
-            let c = chains_few (vertices os) b.sized.some_vertex b.sized.few_vertices in
-            let q = levels_at (vertices os) w₂ v hv in
-            omega arith
+    -- what was written so far
+    judged_only : Only 0 (room_of os ts) w w₂
+    judged_only = only_trans j.only (only_wider (omega arith) (omega arith) f.only)
 
-        -- so their sum can be taken
-        pub total_asks : TotalAsks (vertices os) w₂
-        total_asks = record {
-          few = b.sized.few_vertices;
-          room = (let r = b.room in let l = j.only.same_length in let k = f.only.same_length in omega arith);
-          low = level_low;
-        }
+    -- the code once the lists decide
+    last : (vs ds bs ss : List ℕ) {d : ℕ} → vertices os + 1 ≤ length ss → First (test no_room (Fitting os ts vs ds bs) ∷ []) d
+        → First (test no_room (vertices os + 1 ≤ length ss) ∷ list_tests os ts vs ds bs) d
+    last vs ds bs ss {d} starts p = inr (starts, first_back (graph_tests os ts 0) (test no_room (Fitting os ts vs ds bs) ∷ []) d judged p)
 
-        -- and is small
-        total_small : total_in (vertices os) w₂ < 2 ^ 32
-        total_small =
-            let n : ℕ = vertices os in
-            let m = sum_mono n (λ v. at w₂ (level_of_at n v) + 1) (λ v. most_chains + 1) (λ v hv. let d = level_low v hv in omega arith) in
-            lt_of_le_of_lt
-            (le_trans m (le_trans (le_of_eq (sum_const n (most_chains + 1))) (mul-le-mul_right (most_chains + 1) b.sized.few_vertices)))
-            totals_small
-
-        -- what was written so far
-        judged_only : Only 0 (room_of os ts) w w₂
-        judged_only = only_trans j.only (only_wider (omega arith) (omega arith) f.only)
-
-        -- a list is longer than its room
-        pub not_fitting : (let t = total_in (vertices os) w₂ in (t ≤ length vs) × (t ≤ length ds) × (t ≤ length bs) → ⊥)
-            → GraphListed os ts vs ds bs ss w vs ds bs ss w₂ no_room
-        not_fitting no-fit = record {
-          code = last no_room (inl (
-            (λ F.
-                let r = fitting-total os ts vs ds bs passed f.decomposition F in
-                let q = total_levels (vertices os) w₂ in
-                no-fit (omega arith, omega arith, omega arith)),
-            refl,
-          ));
-          written = λ q. absurd (omega arith);
-          refused = λ q. refl;
-          only = judged_only;
-        }
-
-        module _ (fits : let t = total_in (vertices os) w₂ in (t ≤ length vs) × (t ≤ length ds) × (t ≤ length bs)) where
-          -- all lists fit and can be written
-          pub list_asks : AllAsks os ts (vertices os) vs ds bs ss w₂
-          list_asks = record {
-            levelled = record {
-              tree = lent_tree b.sized j e;
-              room = total_asks.room;
-              up = f.up;
-              decomposition = f.decomposition;
-            };
-            starts_room = starts;
-            small = total_small;
-            vertex_room = fits.0;
-            distance_room = fits.1;
-            branch_room = fits.2;
-          }
-
-          -- and are
-          pub listed : {vs' ds' bs' ss' w₃ : List ℕ} → AllListed os ts (vertices os) vs ds bs ss w₂ vs' ds' bs' ss' w₃
-              → GraphListed os ts vs ds bs ss w vs' ds' bs' ss' w₃ done
-          listed d =
-              let t = lists_total passed.listed f.decomposition d.lists in
+    -- t is the length of the lists
+    module _ {vs ds bs ss : List ℕ} (starts : vertices os + 1 ≤ length ss) {t : ℕ} (total : t ≡ total_in (vertices os) w₂) where
+      -- a list is longer than its room
+      pub not_fitting : ((t ≤ length vs) × (t ≤ length ds) × (t ≤ length bs) → ⊥) → GraphListed os ts vs ds bs ss w vs ds bs ss w₂ no_room
+      not_fitting no-fit = record {
+        code = last vs ds bs ss starts (inl (
+          (λ F.
+              let r = fitting-total os ts vs ds bs passed f.decomposition F in
               let q = total_levels (vertices os) w₂ in
-              record {
-                code = last done (inr (
-                  record {
-                    l₁ = d.l₁;
-                    l₂ = d.l₂;
-                    l₃ = d.l₃;
-                    l₄ = d.l₄;
-                    lists = d.lists;
-                    vertex_room = omega arith;
-                    distance_room = omega arith;
-                    branch_room = omega arith;
-                  },
-                  refl,
-                ));
-                written = λ y. (d.l₁, d.l₂, d.l₃, d.l₄, d.lists, d.vertices, d.distances, d.branches, d.starts);
-                refused = λ ne. absurd (ne refl);
-                only = only_trans judged_only (only_wider (omega arith) (omega arith) d.only);
-              }
-
-  -- the whole call: the room of the starts is tested with that of work
-  pub lists_whole : {vs' ds' bs' ss' w₁ w₂ : List ℕ} {c : ℕ} → GraphListed os ts vs ds bs ss w vs' ds' bs' ss' w₁ c → Zeroed 0 (room_of os ts) w₁ w₂
-      → Lists os ts vs ds bs ss w vs' ds' bs' ss' w₂ c
-  lists_whole p z =
-      let v = whole_call b.sized b.room b p z in
-      record {
-        code = inr (b.sized, tests-joined (list_tests os ts vs ds bs) (inr (b.room, p.code)));
-        written = v.written;
-        refused = v.refused;
-        work = v.work;
+              no-fit (omega arith, omega arith, omega arith)),
+          refl,
+        ));
+        written = λ q. absurd (omega arith);
+        refused = λ q. refl;
+        only = judged_only;
       }
+
+      module _ (fits : (t ≤ length vs) × (t ≤ length ds) × (t ≤ length bs)) where
+        -- all lists fit and can be written
+        pub list_asks : AllAsks os ts (vertices os) vs ds bs ss w₂
+        list_asks = record {
+          levelled = record {
+            tree = lent_tree b.sized j refl;
+            room = total_asks.room;
+            up = f.up;
+            decomposition = f.decomposition;
+          };
+          starts_room = starts;
+          small = total_small;
+          vertex_room = omega (arith, total, fits);
+          distance_room = omega (arith, total, fits);
+          branch_room = omega (arith, total, fits);
+        }
+
+        -- and are
+        pub listed : {vs' ds' bs' ss' w₃ : List ℕ} → AllListed os ts (vertices os) vs ds bs ss w₂ vs' ds' bs' ss' w₃
+            → GraphListed os ts vs ds bs ss w vs' ds' bs' ss' w₃ done
+        listed d =
+            let l = lists_total passed.listed f.decomposition d.lists in
+            let q = total_levels (vertices os) w₂ in
+            record {
+              code = last vs ds bs ss starts (inr (
+                record {
+                  l₁ = d.l₁;
+                  l₂ = d.l₂;
+                  l₃ = d.l₃;
+                  l₄ = d.l₄;
+                  lists = d.lists;
+                  vertex_room = omega (arith, total, fits, l);
+                  distance_room = omega (arith, total, fits, l);
+                  branch_room = omega (arith, total, fits, l);
+                },
+                refl,
+              ));
+              written = λ y. (d.l₁, d.l₂, d.l₃, d.l₄, d.lists, d.vertices, d.distances, d.branches, d.starts);
+              refused = λ ne. absurd (ne refl);
+              only = only_trans judged_only (only_wider (omega arith) (omega arith) d.only);
+            }
+
+-- the whole call: the room of the starts is tested with that of work; what stands in the lent lists is what was left in them
+pub lists_whole : {os ts vs ds bs ss w vs' ds' bs' ss' w₁ w₂ vs'' ds'' bs'' : List ℕ} {c : ℕ} → Begun os ts w
+    → GraphListed os ts vs ds bs ss w vs' ds' bs' ss' w₁ c → Zeroed 0 (room_of os ts) w₁ w₂ → vs'' ≡ vs' → ds'' ≡ ds' → bs'' ≡ bs'
+    → Lists os ts vs ds bs ss w vs'' ds'' bs'' ss' w₂ c
+lists_whole {os} {ts} {vs} {ds} {bs} b p z e₁ e₂ e₃ =
+    let v = whole_call b.sized b.room b p z in
+    rw (e₁, e₂, e₃) (record {
+      code = inr (b.sized, tests-joined (list_tests os ts vs ds bs) (inr (b.room, p.code)));
+      written = v.written;
+      refused = v.refused;
+      work = v.work;
+    })

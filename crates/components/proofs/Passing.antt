@@ -1,24 +1,16 @@
 -- When a neighbour is entered, as the code tests it.
-use Prim.Native.Nat.{ℕ, ◌≤◌, ◌<◌}
+use Prim.Native.Nat.{ℕ, ◌≤◌}
 use mathlib.Core.Path.{◌≡◌, ap, ap₂}
 use mathlib.Core.Logic.{◌≢◌}
 use mathlib.Core.Bool.{Bool, true, false, not}
 use lib.Dec.{eqb, leb}
-use borrow.Author.Tests.{le-leb, lt-leb, leb-true, eq-eqb, ne_eqb, eqb-false, not-true}
+use borrow.Author.Tests.{le-leb, leb-true, eq-eqb, ne_eqb, eqb-false, not-true}
 use Rattle.answers.specs.Choice.{both}
 use Rattle.answers.proofs.Choices.{both_true, both_passed}
 use Rattle.components.specs.Entering.{leads, beyond}
 
 module _ (level : ℕ → ℕ) (c back y : ℕ) where
-  -- its level is below that of c
-  pub leads_low : level y < level c → leads level c back y ≡ false
-  leads_low h = ap (λ (t : Bool). both t (not (eqb y back))) (lt-leb (level c) (level y) h)
-
-  -- it led here
-  pub leads_back : level c ≤ level y → y ≡ back → leads level c back y ≡ false
-  leads_back h e = ap₂ both (le-leb (level c) (level y) h) (ap not (eq-eqb y back e))
-
-  -- neither
+  -- its level is not below that of c, and it did not lead here
   pub leads_on : level c ≤ level y → y ≢ back → leads level c back y ≡ true
   leads_on h ne = both_passed (leb (level c) (level y)) (not (eqb y back)) (le-leb (level c) (level y) h) (ap not (ne_eqb y back ne))
 

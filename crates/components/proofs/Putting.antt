@@ -2,7 +2,7 @@
 use Prim.Native.Nat.{ℕ, ◌+◌, ◌≤◌, ◌<◌}
 use native.Mathlib.Omega.{arith}
 use native.Mathlib.Numerals.{add-one}
-use mathlib.Core.Path.{◌≡◌, refl, sym, ap, subst, ◌∙◌}
+use mathlib.Core.Path.{◌≡◌, sym, ap, subst, ◌∙◌}
 use mathlib.Core.Bool.{Bool, true}
 use mathlib.Core.List.{List, [], ◌∷◌, map}
 use lib.ListN.{length, drop, set, drop_of_length-le}
@@ -10,7 +10,7 @@ use lib.Seq.{sets, length-sets}
 use Rattle.sums.specs.Sum.{at}
 use Rattle.graph.specs.Lent.{list_of}
 use Rattle.graph.specs.Work.{Only}
-use Rattle.graph.proofs.Frames.{only_refl, only_trans, only_set}
+use Rattle.graph.proofs.Frames.{only_trans, only_set}
 use Rattle.graph.proofs.Neighbours.{entry-below}
 use Rattle.paths.specs.Lists.{keep}
 use Rattle.centroid.specs.Regions.{queue_from, met_from, queue_at, level_of_at}
@@ -32,9 +32,15 @@ same_long : (l l₀ r r₀ : List ℕ) (m t : ℕ) → sets l m r ≡ sets l₀ 
 same_long l l₀ r r₀ m t e = sym (length-sets l m r) ∙ ap length e ∙ length-sets l₀ t r₀
 
 module _ {n c x d b t : ℕ} {all vs₀ ds₀ bs₀ w₀ : List ℕ} where
-  -- none stands there yet
-  put_none : Putting n c x d b t all vs₀ ds₀ bs₀ w₀ all vs₀ ds₀ bs₀ w₀ t
-  put_none = record { total = refl; vertices = refl; distances = refl; branches = refl; backs = refl; only = only_refl (queue_from n) (met_from n) w₀ }
+  -- the lists and work are as long as before
+  put_long : {rest vs ds bs w : List ℕ} {m : ℕ} → Putting n c x d b t all vs₀ ds₀ bs₀ w₀ rest vs ds bs w m
+      → (length vs ≡ length vs₀) × (length ds ≡ length ds₀) × (length bs ≡ length bs₀) × (length w ≡ length w₀)
+  put_long {rest} {vs} {ds} {bs} {m = m} P = (
+    same_long vs vs₀ rest all m t P.vertices,
+    same_long ds ds₀ (map (λ y. d) rest) (map (λ y. d) all) m t P.distances,
+    same_long bs bs₀ (map (beyond c x b) rest) (map (beyond c x b) all) m t P.branches,
+    P.only.same_length,
+  )
 
   -- the next one is put
   put_one : {y : ℕ} {rest vs ds bs w : List ℕ} {m : ℕ} → y < n → Putting n c x d b t all vs₀ ds₀ bs₀ w₀ (y ∷ rest) vs ds bs w m
@@ -58,93 +64,80 @@ module _ {n c x d b t : ℕ} {all vs₀ ds₀ bs₀ w₀ : List ℕ} where
     backs = P.backs;
   }
 
--- the loop over the list l of the vertex at place i
-module _
-    (os ts : List ℕ) (n c i t : ℕ) (vs₀ ds₀ bs₀ w₀ l : List ℕ) (a : ListAsks os ts n c i t vs₀ ds₀ bs₀ w₀) (e : l ≡ list_of os ts (at vs₀ i))
-  where
-    -- k entries of l were looked at, and m places are taken
-    abbrev pub Loop : (vs ds bs w : List ℕ) (m k : ℕ) → Type 0
-    Loop vs ds bs w m k =
-        Putting n c (at vs₀ i) (at ds₀ i + 1) (at bs₀ i) t (keep (leads (level_in n w₀) c (at w₀ (queue_at n (at vs₀ i)))) l) vs₀ ds₀ bs₀ w₀
-        (keep (leads (level_in n w₀) c (at w₀ (queue_at n (at vs₀ i)))) (drop k l)) vs ds bs w m
+-- of the list of the vertex at place i the first k entries were looked at, and m places are taken
+abbrev pub Loop : (os ts : List ℕ) (n c i t : ℕ) (vs₀ ds₀ bs₀ w₀ vs ds bs w : List ℕ) (m k : ℕ) → Type 0
+Loop os ts n c i t vs₀ ds₀ bs₀ w₀ vs ds bs w m k =
+    Putting n c (at vs₀ i) (at ds₀ i + 1) (at bs₀ i) t (led_to os ts n c w₀ (at vs₀ i)) vs₀ ds₀ bs₀ w₀
+    (keep (leads (level_in n w₀) c (at w₀ (queue_at n (at vs₀ i)))) (drop k (list_of os ts (at vs₀ i)))) vs ds bs w m
 
-    -- none was looked at
-    pub put_start : Loop vs₀ ds₀ bs₀ w₀ t 0
-    put_start = put_none
-
+-- the loop at its start and after k entries
+module _ {os ts : List ℕ} {n c i t : ℕ} {vs₀ ds₀ bs₀ w₀ : List ℕ} (a : ListAsks os ts n c i t vs₀ ds₀ bs₀ w₀) where
+  module _ {vs ds bs w : List ℕ} (k : ℕ) {m : ℕ} (P : Loop os ts n c i t vs₀ ds₀ bs₀ w₀ vs ds bs w m k) where
     -- all were
-    pub put-done : {vs ds bs w : List ℕ} {m : ℕ} (k : ℕ) → Loop vs ds bs w m k → length l ≤ k
-        → ListAnswers os ts n c i t vs₀ ds₀ bs₀ w₀ vs ds bs w m
-    put-done {vs} {ds} {bs} {w} {m} k P h =
-        let x : ℕ = at vs₀ i in
-        let g : ℕ → Bool = leads (level_in n w₀) c (at w₀ (queue_at n x)) in
-        let P' = subst (λ (r : List ℕ). Putting n c x (at ds₀ i + 1) (at bs₀ i) t (keep g l) vs₀ ds₀ bs₀ w₀ r vs ds bs w m)
-        (ap (keep g) (drop_of_length-le l h)) P in
-        subst (λ (r : List ℕ). Put n c x (at ds₀ i + 1) (at bs₀ i) t (keep g r) vs₀ ds₀ bs₀ w₀ vs ds bs w m) e (put_all P')
+    pub put-done : length (list_of os ts (at vs₀ i)) ≤ k → ListAnswers os ts n c i t vs₀ ds₀ bs₀ w₀ vs ds bs w m
+    put-done h =
+        put_all (subst (λ (r : List ℕ). Putting n c (at vs₀ i) (at ds₀ i + 1) (at bs₀ i) t (led_to os ts n c w₀ (at vs₀ i)) vs₀ ds₀ bs₀ w₀ r vs ds bs w m)
+        (ap (keep (leads (level_in n w₀) c (at w₀ (queue_at n (at vs₀ i))))) (drop_of_length-le (list_of os ts (at vs₀ i)) h)) P)
 
-    module _ {vs ds bs w : List ℕ} {m : ℕ} (k : ℕ) (P : Loop vs ds bs w m k) where
-      -- the lists and work are as long as before
-      pub put_long : (length vs ≡ length vs₀) × (length ds ≡ length ds₀) × (length bs ≡ length bs₀) × (length w ≡ length w₀)
-      put_long =
-          let x : ℕ = at vs₀ i in
-          let g : ℕ → Bool = leads (level_in n w₀) c (at w₀ (queue_at n x)) in
-          let far : ℕ → ℕ = λ y. at ds₀ i + 1 in
-          let hung : ℕ → ℕ = beyond c x (at bs₀ i) in (
-            same_long vs vs₀ (keep g (drop k l)) (keep g l) m t P.vertices,
-            same_long ds ds₀ (map far (keep g (drop k l))) (map far (keep g l)) m t P.distances,
-            same_long bs bs₀ (map hung (keep g (drop k l))) (map hung (keep g l)) m t P.branches,
-            P.only.same_length,
-          )
+    module _ (hk : k < length (list_of os ts (at vs₀ i))) where
+      -- the next entry, and the test by the levels as the loop began
+      abbrev y : ℕ
+      y = at (list_of os ts (at vs₀ i)) k
 
-      module _ (hk : k < length l) where
-        -- the test, by the levels as the loop began
-        abbrev g : ℕ → Bool
-        g = leads (level_in n w₀) c (at w₀ (queue_at n (at vs₀ i)))
+      abbrev g : ℕ → Bool
+      g = leads (level_in n w₀) c (at w₀ (queue_at n (at vs₀ i)))
 
-        -- the next entry is a vertex
-        next-below : at l k < n
-        next-below =
-            let z = a.tree.size in
-            let v = a.vertex in
-            let h = entry-below os ts a.tree.offsets a.tree.targets (at vs₀ i) k (omega arith) (subst (λ (r : List ℕ). k < length r) e hk) in
-            let q = ap (λ (r : List ℕ). at r k) e in
-            omega arith
+      -- the next entry is a vertex
+      next-below : y < n
+      next-below =
+          omega (arith, a.tree.size, entry-below os ts a.tree.offsets a.tree.targets (at vs₀ i) k (omega (arith, a.tree.size, a.vertex)) hk)
 
-        -- the levels in work are as they were
-        same_test : leads (level_in n w) c (at w₀ (queue_at n (at vs₀ i))) (at l k) ≡ g (at l k)
-        same_test =
-            leads_same (level_in n w₀) c (at w₀ (queue_at n (at vs₀ i))) (at l k) (level_in n w)
-            (P.only.after (level_of_at n c) (omega arith)) (P.only.after (level_of_at n (at l k)) (omega arith))
+      -- the levels in work are as they were
+      same_test : leads (level_in n w) c (at w₀ (queue_at n (at vs₀ i))) y ≡ g y
+      same_test =
+          let hy = next-below in
+          leads_same (level_in n w₀) c (at w₀ (queue_at n (at vs₀ i))) y (level_in n w)
+          (P.only.after (level_of_at n c) (omega (arith, a.centre))) (P.only.after (level_of_at n y) (omega arith))
 
-        -- where the next one is entered there is room for it
-        pub put_asks : EnterAsks n c (at vs₀ i) (at w₀ (queue_at n (at vs₀ i))) (at l k) m vs ds bs w
-        put_asks =
-            let long = put_long in
-            let T = a.tree in
-            let same : length (keep g l) ≡ length (led_to os ts n c w₀ (at vs₀ i)) = ap (λ (r : List ℕ). length (keep g r)) e in
-            let room = a.vertex_room in
-            let room₂ = a.distance_room in
-            let room₃ = a.branch_room in
-            let more : g (at l k) ≡ true → m < t + length (keep g l) = λ q. (let z = ap length (rest_new g l k hk q) in let y = P.total in omega arith) in
-            record {
-              small = T.small;
-              centre = a.centre;
-              vertex = a.vertex;
-              neighbour = next-below;
-              room = (let r = a.room in omega arith);
-              fits = λ q. (let y = more (sym same_test ∙ q) in (omega arith, omega arith, omega arith));
-            }
+      -- where the next one is entered there is room for it
+      next_asks : EnterAsks n c (at vs₀ i) (at w₀ (queue_at n (at vs₀ i))) y m vs ds bs w
+      next_asks =
+          let more : g y ≡ true → m < t + length (led_to os ts n c w₀ (at vs₀ i))
+          = λ q. omega (arith, ap length (rest_new g (list_of os ts (at vs₀ i)) k hk q), P.total) in
+          record {
+            small = a.tree.small;
+            centre = a.centre;
+            vertex = a.vertex;
+            neighbour = next-below;
+            room = omega (arith, a.room, put_long P);
+            fits = λ q.
+                (let r = more (sym same_test ∙ q) in
+                (omega (arith, put_long P, a.vertex_room), omega (arith, put_long P, a.distance_room), omega (arith, put_long P, a.branch_room)));
+          }
 
-        -- it was looked at
-        pub put_next : {vs' ds' bs' w' : List ℕ} {r : ℕ}
-            → Entered n c (at vs₀ i) (at w₀ (queue_at n (at vs₀ i))) (at ds₀ i + 1) (at bs₀ i) (at l k) m vs ds bs w vs' ds' bs' w' r
-            → Loop vs' ds' bs' w' r (k + 1)
-        put_next (left off p q s u z) =
-            rw (p, q, s, u, z)
-            (subst (λ (r : List ℕ). Putting n c (at vs₀ i) (at ds₀ i + 1) (at bs₀ i) t (keep g l) vs₀ ds₀ bs₀ w₀ r vs ds bs w m)
-            (rest_gone g l k hk (sym same_test ∙ off)) P)
-        put_next (new on p q s u z) =
-            rw (p, q, s, u, z)
-            (put_one next-below
-            (subst (λ (r : List ℕ). Putting n c (at vs₀ i) (at ds₀ i + 1) (at bs₀ i) t (keep g l) vs₀ ds₀ bs₀ w₀ r vs ds bs w m)
-            (rest_new g l k hk (sym same_test ∙ on)) P))
+      -- what is left of the list, with the next entry or without it
+      rest_are : {r : List ℕ} → keep g (drop k (list_of os ts (at vs₀ i))) ≡ r
+          → Putting n c (at vs₀ i) (at ds₀ i + 1) (at bs₀ i) t (led_to os ts n c w₀ (at vs₀ i)) vs₀ ds₀ bs₀ w₀ r vs ds bs w m
+      rest_are e = subst (λ (r : List ℕ). Putting n c (at vs₀ i) (at ds₀ i + 1) (at bs₀ i) t (led_to os ts n c w₀ (at vs₀ i)) vs₀ ds₀ bs₀ w₀ r vs ds bs w m) e P
+
+      -- it was looked at
+      next_put : {vs' ds' bs' w' : List ℕ} {r : ℕ}
+          → Entered n c (at vs₀ i) (at w₀ (queue_at n (at vs₀ i))) (at ds₀ i + 1) (at bs₀ i) y m vs ds bs w vs' ds' bs' w' r
+          → Loop os ts n c i t vs₀ ds₀ bs₀ w₀ vs' ds' bs' w' r (k + 1)
+      next_put (left off p q s u z) = rw (p, q, s, u, z) (rest_are (rest_gone g (list_of os ts (at vs₀ i)) k hk (sym same_test ∙ off)))
+      next_put (new on p q s u z) =
+          rw (p, q, s, u, z) (put_one next-below (rest_are (rest_new g (list_of os ts (at vs₀ i)) k hk (sym same_test ∙ on))))
+
+    -- the same over the list l as the code holds it
+    module _ {l : List ℕ} (e : l ≡ list_of os ts (at vs₀ i)) (hk : k < length l) where
+      pub put_asks : EnterAsks n c (at vs₀ i) (at w₀ (queue_at n (at vs₀ i))) (at l k) m vs ds bs w
+      put_asks =
+          subst (λ (z : List ℕ). k < length z → EnterAsks n c (at vs₀ i) (at w₀ (queue_at n (at vs₀ i))) (at z k) m vs ds bs w) (sym e) next_asks hk
+
+      pub put_next : {vs' ds' bs' w' : List ℕ} {r : ℕ}
+          → Entered n c (at vs₀ i) (at w₀ (queue_at n (at vs₀ i))) (at ds₀ i + 1) (at bs₀ i) (at l k) m vs ds bs w vs' ds' bs' w' r
+          → Loop os ts n c i t vs₀ ds₀ bs₀ w₀ vs' ds' bs' w' r (k + 1)
+      put_next {vs'} {ds'} {bs'} {w'} {r} =
+          subst (λ (z : List ℕ). k < length z
+          → Entered n c (at vs₀ i) (at w₀ (queue_at n (at vs₀ i))) (at ds₀ i + 1) (at bs₀ i) (at z k) m vs ds bs w vs' ds' bs' w' r
+          → Loop os ts n c i t vs₀ ds₀ bs₀ w₀ vs' ds' bs' w' r (k + 1)) (sym e) (λ h. next_put h) hk

@@ -28,7 +28,7 @@ use Rattle.components.proofs.Held.{levels_kept}
 use Rattle.components.proofs.Places.{sets_join, sets_over, sets_grown, notes_only, notes_stay, notes_new}
 use Rattle.components.proofs.Leading.{back_of, branch_of_lem}
 use Rattle.components.proofs.Partly.{partly_more, partly-all, partly-below}
-use Rattle.components.proofs.Walking.{around, WalkBy, Walking, lists, centre, walk_long, here, next, m-below, here-below, at_vertex, at-distance, at_branch, led}
+use Rattle.components.proofs.Walking.{around, WalkBy, Walking, lists, centre, here, next, m-below, here-below, at_vertex, at-distance, at_branch, led}
 
 module _ {os ts : List ℕ} {n c from : ℕ} {vs₀ ds₀ bs₀ w₀ : List ℕ} (a : ComponentAsks os ts n c from vs₀ ds₀ bs₀ w₀)
     {vs ds bs w : List ℕ} {i t : ℕ} (g : Walking os ts n c from vs₀ ds₀ bs₀ w₀ vs ds bs w i t) (more : i < t) where
@@ -168,14 +168,6 @@ module _ {os ts : List ℕ} {n c from : ℕ} {vs ds bs w : List ℕ} (a : Compon
     within = omega arith;
     only = only_refl (queue_from n) (met_from n) (set w (queue_at n c) c);
   }
-
-  -- the lists and work are as long as at first
-  pub walk_lengths : {vs' ds' bs' w' : List ℕ} {i t : ℕ}
-      → Walking os ts n c from (set vs from c) (set ds from 0) (set bs from c) (set w (queue_at n c) c) vs' ds' bs' w' i t
-      → (length vs' ≡ length vs) × (length ds' ≡ length ds) × (length bs' ≡ length bs) × (length w' ≡ length w)
-  walk_lengths g =
-      let l = walk_long walk_begun g in
-      (l.0 ∙ length-set vs from c, l.1 ∙ length-set ds from 0, l.2 ∙ length-set bs from c, l.3 ∙ length-set w (queue_at n c) c)
 
   -- all places were looked at
   pub walk-done : {vs' ds' bs' w' : List ℕ} {i t : ℕ}

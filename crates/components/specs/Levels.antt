@@ -1,5 +1,5 @@
 -- What the functions that write the levels into work ask and answer.
-use Rattle.std.specs.Prelude.{ℕ, ◌+◌, ◌≤◌, ◌<◌, ◌≡◌, List, length, take, drop}
+use Rattle.std.specs.Prelude.{ℕ, ◌+◌, ◌≤◌, ◌<◌, List, length, take, drop}
 use Rattle.sums.specs.Sum.{at, sum}
 use Rattle.answers.specs.Limits.{max_vertices, most_chains}
 use Rattle.graph.specs.Lent.{list_of}
@@ -7,7 +7,6 @@ use Rattle.graph.specs.Work.{Only}
 use Rattle.centroid.specs.Decomposition.{DecompositionOf}
 use Rattle.centroid.specs.Regions.{level_of_from, level_of_at, work_end}
 use Rattle.centroid.specs.Search.{LentTree}
-use Rattle.centroid.specs.Parting.{PartingIn}
 
 -- the levels by vertex in work, from 7n on
 abbrev pub levels_in : ℕ → List ℕ → List ℕ
@@ -16,25 +15,6 @@ levels_in n w = take n (drop (level_of_from n) w)
 -- "The total length equals the sum of level(v)+1 over all vertices."
 abbrev pub total_in : ℕ → List ℕ → ℕ
 total_in n w = sum n (λ v. at w (level_of_at n v) + 1)
-
--- a decomposition under way, with the levels in work in place of a table, and parents that are written nowhere
-pub record Levelling (os ts : List ℕ) (n : ℕ) (w : List ℕ) (h t : ℕ) : Type 0 where
-  pub up : List ℕ
-  pub level : List ℕ
-  pub state : PartingIn os ts n up level w h t
-  pub held : (v : ℕ) → v < n → at w (level_of_at n v) ≡ at level v
-
--- the first entry that waits is to be taken
-pub record LevelAsks (os ts : List ℕ) (n h t : ℕ) (w : List ℕ) : Type 0 where
-  pub tree : LentTree os ts n
-  pub room : work_end n ≤ length w
-  pub some : h < t
-  pub levelling : Levelling os ts n w h t
-
--- it was taken, and t' entries are known
-pub record LevelRemoved (os ts : List ℕ) (n h : ℕ) (w w' : List ℕ) (t' : ℕ) : Type 0 where
-  pub levelling : Levelling os ts n w' (h + 1) t'
-  pub only : Only 0 (work_end n) w w'
 
 -- the levels of a tree are to be found
 pub record FindAsks (os ts : List ℕ) (n : ℕ) (w : List ℕ) : Type 0 where

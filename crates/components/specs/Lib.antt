@@ -1,3 +1,4 @@
+pub mod Front
 pub mod Levels
 pub mod Entering
 pub mod Listing

@@ -1,84 +1,73 @@
 // The public call.
 ghost use Rattle.std.specs.Prelude.{◌≤◌, length};
+ghost use Rattle.answers.specs.Answers.{code_of};
 ghost use Rattle.graph.specs.Judgement.{Decides};
 ghost use Rattle.graph.specs.Steps.{Begun};
 ghost use Rattle.centroid.specs.Calls.{Lists};
+ghost use Rattle.components.specs.Front.{Same};
 ghost use Rattle.components.specs.Listing.{GraphListed};
 
 use crate::levels::{find_levels, total_room};
-use crate::listing::list_all;
-use answers::codes::{DONE, NO_ROOM};
+use crate::listing::{Front, list_all};
+use answers::answer::Refusal;
 use graph::call::{begin, finish};
+use graph::lists::Graph;
 use validate::judge;
 
 // Whether each of the three lists has room for the total.
-fn fitting(total: usize, vertices: &[u32], distances: &[u32], branches: &[u32]) -> bool
-    ensures { Decides ((total ≤ length vertices.now) × (total ≤ length distances.now) × (total ≤ length branches.now)) result }
+fn fitting(total: usize, front: &Front) -> bool
+    ensures { Decides ((total ≤ length front.now.vertices.now) × (total ≤ length front.now.distances.now) × (total ≤ length front.now.branches.now)) result }
 {
-    if vertices.len() < total {
-        return false;
-    }
-    if distances.len() < total {
-        return false;
-    }
-    total <= branches.len()
+    total <= front.vertices.len() && total <= front.distances.len() && total <= front.branches.len()
 }
 
 // Tests the room of starts, judges the graph and, where it is a tree and the lists fit, writes them.
 fn list_graph(
-    offsets: &[u32],
-    targets: &[u32],
-    vertices: &mut [u32],
-    distances: &mut [u32],
-    branches: &mut [u32],
+    graph: &Graph,
+    front: &mut Front,
     starts: &mut [u32],
     work: &mut [u32],
-) -> u32
-    requires { Begun offsets.now targets.now work.old }
-    ensures { GraphListed offsets.now targets.now vertices.old distances.old branches.old starts.old work.old vertices.new distances.new branches.new starts.new work.new result }
+) -> Result<(), Refusal>
+    requires { Begun graph.now.offsets.now graph.now.targets.now work.old }
+    ensures same { Same front.old front.new }
+    ensures lists { GraphListed graph.now.offsets.now graph.now.targets.now front.old.vertices.now front.old.distances.now front.old.branches.now starts.old work.old front.new.vertices.now front.new.distances.now front.new.branches.now starts.new work.new (code_of result) }
 {
-    let n = offsets.len() - 1;
+    let n = graph.vertices();
     if starts.len() < n + 1 {
-        return NO_ROOM;
+        return Err(Refusal::NoRoom);
     }
-    let code = judge(offsets, targets, 0, work);
-    if code != DONE {
-        return code;
+    judge(graph, 0, work)?;
+    find_levels(graph, n, work);
+    if !fitting(total_room(n, work), front) {
+        return Err(Refusal::NoRoom);
     }
-    find_levels(offsets, targets, n, work);
-    let total = total_room(n, work);
-    if !fitting(total, vertices, distances, branches) {
-        return NO_ROOM;
-    }
-    list_all(
-        offsets, targets, n, vertices, distances, branches, starts, work,
-    );
-    DONE
+    list_all(graph, n, front, starts, work);
+    Ok(())
 }
 
-// Lists the components of the tree of offsets and targets, decomposed by centroids from start 0: for c = 0 to n - 1 the vertices of c's component
-// breadth first in list order, each with its distance from c and its branch, the neighbour of c that it hangs from, and c itself for c. The list
-// of c stands from starts[c] up to starts[c + 1]. The code of the first test that is not passed, and then nothing is written: BAD_SIZE, NO_ROOM
-// for work or starts, the tests 3 to 8, NO_ROOM for the lists; DONE for a tree. Work needs 8n + E entries, which are zero afterwards; starts
-// needs n + 1; the lists have together the sum of level + 1 entries, at most n (floor(log2 n) + 1). Time O(n log n + E).
+// Lists the components of the tree, decomposed by centroids from start 0: for c = 0 to n - 1 the vertices of c's component breadth first in list
+// order, each with its distance from c and its branch, the neighbour of c that it hangs from, and c itself for c. The list of c stands from
+// starts[c] up to starts[c + 1]. The first test that is not passed, and then nothing is written: BadSize, NoRoom for work or starts, the tests
+// 3 to 8, NoRoom for the lists; nothing refused for a tree. Work needs 8n + E entries, which are zero afterwards; starts needs n + 1; the lists
+// have together the sum of level + 1 entries, at most n (floor(log2 n) + 1). Time O(n log n + E).
 pub fn component_lists(
-    offsets: &[u32],
-    targets: &[u32],
+    graph: &Graph,
     vertices: &mut [u32],
     distances: &mut [u32],
     branches: &mut [u32],
     starts: &mut [u32],
     work: &mut [u32],
-) -> u32
-    ensures { Lists offsets.now targets.now vertices.old distances.old branches.old starts.old work.old vertices.new distances.new branches.new starts.new work.new result }
+) -> Result<(), Refusal>
+    ensures { Lists graph.now.offsets.now graph.now.targets.now vertices.old distances.old branches.old starts.old work.old vertices.new distances.new branches.new starts.new work.new (code_of result) }
 {
-    let begun = begin(offsets, targets, true, work.len());
-    if begun != DONE {
-        return begun;
-    }
-    let code = list_graph(
-        offsets, targets, vertices, distances, branches, starts, work,
-    );
-    finish(offsets, targets, work);
-    code
+    begin(graph, true, work.len())?;
+    let mut front = Front {
+        vertices,
+        distances,
+        branches,
+        count: 0,
+    };
+    let listed = list_graph(graph, &mut front, starts, work);
+    finish(graph, work);
+    listed
 }

@@ -1,11 +1,30 @@
 // The lists themselves: the list of vertices is its own queue, and a neighbour is entered where its level is not below the centroid's and it is
 // not the vertex that led here; in a tree that is once for each vertex of the component.
 ghost use Rattle.std.specs.Prelude.{◌<◌, ◌^◌, ◌≡◌};
+ghost use Rattle.components.specs.Front.{Same};
 ghost use Rattle.components.specs.Entering.{beyond, EnterAsks, Entered, ListAsks, ListAnswers};
 ghost use Rattle.components.specs.Listing.{ComponentAsks, ComponentListed, AllAsks, AllListed};
 
 use centroid::regions::{LEVEL_OF, QUEUE};
-use graph::lists::neighbours;
+use graph::lists::Graph;
+
+// The lent room for the lists, place by place a vertex, its distance and its branch, and how many places are taken.
+#[derive(Drop)]
+pub(crate) struct Front<'a> {
+    pub vertices: &'a mut [u32],
+    pub distances: &'a mut [u32],
+    pub branches: &'a mut [u32],
+    pub count: usize,
+}
+
+// A vertex whose neighbours are entered: the one that led to it, the distance that they get, and its own branch.
+#[derive(Clone, Copy)]
+struct Lead {
+    vertex: usize,
+    back: usize,
+    distance: u32,
+    branch: u32,
+}
 
 // The branch of y, which x leads on to: y itself beside the centroid c, else the branch of x.
 fn branch_beyond(c: usize, x: usize, branch: u32, y: usize) -> u32
@@ -18,125 +37,77 @@ fn branch_beyond(c: usize, x: usize, branch: u32, y: usize) -> u32
     branch
 }
 
-// Enters y, a neighbour of x, at place count, where its level is not below that of c and it is not the vertex back that led to x. Answers how
-// many places are taken.
-fn enter(
-    n: usize,
-    c: usize,
-    x: usize,
-    back: usize,
-    distance: u32,
-    branch: u32,
-    y: usize,
-    count: usize,
-    vertices: &mut [u32],
-    distances: &mut [u32],
-    branches: &mut [u32],
-    work: &mut [u32],
-) -> usize
-    requires { EnterAsks n c x back y count vertices.old distances.old branches.old work.old }
-    ensures { Entered n c x back distance branch y count vertices.old distances.old branches.old work.old vertices.new distances.new branches.new work.new result }
+// Enters y, a neighbour of the lead, at the next place, where its level is not below that of c and it is not the vertex that led there.
+fn enter(n: usize, c: usize, lead: Lead, y: usize, front: &mut Front, work: &mut [u32])
+    requires { EnterAsks n c lead.vertex lead.back y front.old.count front.old.vertices.now front.old.distances.now front.old.branches.now work.old }
+    ensures same { Same front.old front.new }
+    ensures lists { Entered n c lead.vertex lead.back lead.distance lead.branch y front.old.count front.old.vertices.now front.old.distances.now front.old.branches.now work.old front.new.vertices.now front.new.distances.now front.new.branches.now work.new front.new.count }
 {
     let own = work[LEVEL_OF * n + y];
     let least = work[LEVEL_OF * n + c];
-    if own < least {
-        return count;
+    if own < least || y == lead.back {
+        return;
     }
-    if y == back {
-        return count;
-    }
-    vertices[count] = y as u32;
-    distances[count] = distance;
-    branches[count] = branch_beyond(c, x, branch, y);
-    work[QUEUE * n + y] = x as u32;
-    count + 1
+    front.vertices[front.count] = y as u32;
+    front.distances[front.count] = lead.distance;
+    front.branches[front.count] = branch_beyond(c, lead.vertex, lead.branch, y);
+    work[QUEUE * n + y] = lead.vertex as u32;
+    front.count += 1;
 }
 
 // Enters the neighbours of the vertex at place i.
-fn enter_list(
-    offsets: &[u32],
-    targets: &[u32],
-    n: usize,
-    c: usize,
-    i: usize,
-    met: usize,
-    vertices: &mut [u32],
-    distances: &mut [u32],
-    branches: &mut [u32],
-    work: &mut [u32],
-) -> usize
-    requires { ListAsks offsets.now targets.now n c i met vertices.old distances.old branches.old work.old }
-    ensures { ListAnswers offsets.now targets.now n c i met vertices.old distances.old branches.old work.old vertices.new distances.new branches.new work.new result }
+fn enter_list(graph: &Graph, n: usize, c: usize, i: usize, front: &mut Front, work: &mut [u32])
+    requires { ListAsks graph.now.offsets.now graph.now.targets.now n c i front.old.count front.old.vertices.now front.old.distances.now front.old.branches.now work.old }
+    ensures same { Same front.old front.new }
+    ensures lists { ListAnswers graph.now.offsets.now graph.now.targets.now n c i front.old.count front.old.vertices.now front.old.distances.now front.old.branches.now work.old front.new.vertices.now front.new.distances.now front.new.branches.now work.new front.new.count }
 {
-    let x = vertices[i] as usize;
-    let back = work[QUEUE * n + x] as usize;
-    let distance = distances[i] + 1;
-    let branch = branches[i];
-    let list = neighbours(offsets, targets, x);
-    let mut count = met;
-    let mut k: usize = 0;
-    while k < list.len() {
-        let y = list[k] as usize;
-        count = enter(
-            n, c, x, back, distance, branch, y, count, vertices, distances, branches, work,
-        );
-        k += 1;
+    let vertex = front.vertices[i] as usize;
+    let lead = Lead {
+        vertex,
+        back: work[QUEUE * n + vertex] as usize,
+        distance: front.distances[i] + 1,
+        branch: front.branches[i],
+    };
+    for y in graph.neighbours(vertex) {
+        enter(n, c, lead, *y as usize, front, work);
     }
-    count
 }
 
-// Lists the component of c breadth first from place from on, and answers the place behind it.
-fn list_component(
-    offsets: &[u32],
-    targets: &[u32],
-    n: usize,
-    c: usize,
-    from: usize,
-    vertices: &mut [u32],
-    distances: &mut [u32],
-    branches: &mut [u32],
-    work: &mut [u32],
-) -> usize
-    requires { ComponentAsks offsets.now targets.now n c from vertices.old distances.old branches.old work.old }
-    ensures { ComponentListed offsets.now targets.now n c from vertices.old distances.old branches.old work.old vertices.new distances.new branches.new work.new result }
+// Lists the component of c breadth first, from the next place on.
+fn list_component(graph: &Graph, n: usize, c: usize, front: &mut Front, work: &mut [u32])
+    requires { ComponentAsks graph.now.offsets.now graph.now.targets.now n c front.old.count front.old.vertices.now front.old.distances.now front.old.branches.now work.old }
+    ensures same { Same front.old front.new }
+    ensures lists { ComponentListed graph.now.offsets.now graph.now.targets.now n c front.old.count front.old.vertices.now front.old.distances.now front.old.branches.now work.old front.new.vertices.now front.new.distances.now front.new.branches.now work.new front.new.count }
 {
-    vertices[from] = c as u32;
-    distances[from] = 0;
-    branches[from] = c as u32;
+    let from = front.count;
+    front.vertices[from] = c as u32;
+    front.distances[from] = 0;
+    front.branches[from] = c as u32;
     work[QUEUE * n + c] = c as u32;
-    let mut count = from + 1;
+    front.count = from + 1;
     let mut i = from;
-    while i < count {
-        count = enter_list(
-            offsets, targets, n, c, i, count, vertices, distances, branches, work,
-        );
+    while i < front.count {
+        enter_list(graph, n, c, i, front, work);
         i += 1;
     }
-    count
 }
 
 // Lists the components of all vertices one behind the other, and writes where each begins and where the last ends.
 pub(crate) fn list_all(
-    offsets: &[u32],
-    targets: &[u32],
+    graph: &Graph,
     n: usize,
-    vertices: &mut [u32],
-    distances: &mut [u32],
-    branches: &mut [u32],
+    front: &mut Front,
     starts: &mut [u32],
     work: &mut [u32],
 )
-    requires { AllAsks offsets.now targets.now n vertices.old distances.old branches.old starts.old work.old }
-    ensures { AllListed offsets.now targets.now n vertices.old distances.old branches.old starts.old work.old vertices.new distances.new branches.new starts.new work.new }
+    requires { AllAsks graph.now.offsets.now graph.now.targets.now n front.old.vertices.now front.old.distances.now front.old.branches.now starts.old work.old }
+    ensures same { Same front.old front.new }
+    ensures lists { AllListed graph.now.offsets.now graph.now.targets.now n front.old.vertices.now front.old.distances.now front.old.branches.now starts.old work.old front.new.vertices.now front.new.distances.now front.new.branches.now starts.new work.new }
 {
-    let mut from: usize = 0;
-    let mut c: usize = 0;
-    while c < n {
-        starts[c] = from as u32;
-        from = list_component(
-            offsets, targets, n, c, from, vertices, distances, branches, work,
-        );
-        c += 1;
+    front.count = 0;
+    for c in 0..n {
+        starts[c] = front.count as u32;
+        list_component(graph, n, c, front, work);
     }
-    starts[n] = from as u32;
+    starts[n] = front.count as u32;
 }

@@ -1,6 +1,7 @@
-// The queries, by number, in the order of how many numbers each takes:
-// root, range, depth, id, distance, ancestor, size, lca, jump.
-use answers::answer::{Answer, Interval};
+// The calls of the queries, and the answers' print.
+use crate::given::Given;
+use crate::query::Query;
+use answers::answer::{Answer, Interval, code_of};
 use between::distance::distance;
 use between::jump::jump;
 use between::lca::lca;
@@ -9,116 +10,53 @@ use queries::reads::{depth, root, vertex_id};
 use sizes::subtrees::{subtree_range, subtree_size};
 use std::io;
 use std::io::Print;
-
-// Prints a space and a number.
-fn print_value(rt: &impl Print, x: usize) -> io::Result<()> {
-    print!(rt; " {x}")
-}
+use tables::Tables;
 
 // Prints the code of an answer, and its number where it has one.
-fn print(rt: &impl Print, answer: Answer) -> io::Result<()> {
-    let code = answer.code();
-    print!(rt; "{code}")?;
-    if let Answer::Is(x) = answer {
-        return print_value(rt, x);
+fn print_answer(rt: &impl Print, answer: Answer) -> io::Result<()> {
+    let code = code_of(answer);
+    match answer {
+        Ok(x) => println!(rt; "{code} {x}"),
+        Err(_) => println!(rt; "{code}"),
     }
-    Ok(())
 }
 
 // Prints the code of an interval, and its ends where it has them.
 fn print_interval(rt: &impl Print, interval: Interval) -> io::Result<()> {
-    let code = interval.code();
-    print!(rt; "{code}")?;
-    if let Interval::Between(start, end) = interval {
-        print_value(rt, start)?;
-        return print_value(rt, end);
-    }
-    Ok(())
-}
-
-// The answer to any query but that for a range, with as many of the numbers as it has.
-fn answer(
-    parent: &[u32],
-    depths: &[u32],
-    head: &[u32],
-    id: &[u32],
-    order: &[u32],
-    size: &[u32],
-    kind: u32,
-    u: usize,
-    v: usize,
-    w: usize,
-) -> Answer {
-    match kind {
-        0 => root(parent, depths, head, id, order, size),
-        2 => depth(parent, depths, head, id, order, size, u),
-        3 => vertex_id(parent, depths, head, id, order, size, u),
-        4 => distance(parent, depths, head, id, order, size, u, v),
-        5 => kth_ancestor(parent, depths, head, id, order, size, u, v),
-        6 => subtree_size(parent, depths, head, id, order, size, u, v),
-        7 => lca(parent, depths, head, id, order, size, u, v, w),
-        _ => jump(parent, depths, head, id, order, size, u, v, w),
+    let code = code_of(interval);
+    match interval {
+        Ok((start, end)) => println!(rt; "{code} {start} {end}"),
+        Err(_) => println!(rt; "{code}"),
     }
 }
 
-// Asks and prints the answer.
-fn ask_lent(
-    rt: &impl Print,
-    parent: &[u32],
-    depths: &[u32],
-    head: &[u32],
-    id: &[u32],
-    order: &[u32],
-    size: &[u32],
-    kind: u32,
-    u: usize,
-    v: usize,
-    w: usize,
-) -> io::Result<()> {
-    if kind == 1 {
-        return print_interval(rt, subtree_range(parent, depths, head, id, order, size, u));
-    }
-    print(
-        rt,
-        answer(parent, depths, head, id, order, size, kind, u, v, w),
-    )
-}
-
-// The n entries of the list from this place on; none where the list has not so many.
-fn part(tables: &[u32], from: usize, n: usize) -> &[u32] {
-    if tables.len() < from {
-        return &tables[0..0];
-    }
-    if tables.len() - from < n {
-        return &tables[0..0];
-    }
-    &tables[from..from + n]
-}
-
-// Asks the six tables of n vertices that stand one after the other in the list.
-pub fn ask(
-    rt: &impl Print,
-    n: usize,
-    tables: &[u32],
-    kind: u32,
-    u: usize,
-    v: usize,
-    w: usize,
-) -> io::Result<()> {
-    if 8 < n {
-        return Ok(());
-    }
-    ask_lent(
-        rt,
-        part(tables, 0, n),
-        part(tables, n, n),
-        part(tables, 2 * n, n),
-        part(tables, 3 * n, n),
-        part(tables, 4 * n, n),
-        part(tables, 5 * n, n),
-        kind,
-        u,
-        v,
-        w,
-    )
+// Asks the tables that are given, and prints the answer.
+pub fn ask(rt: &impl Print, query: Query, given: Given) -> io::Result<()> {
+    let n = given.n;
+    let (parent, rest) = given.entries.split_at(n);
+    let (depths, rest) = rest.split_at(n);
+    let (head, rest) = rest.split_at(n);
+    let (id, rest) = rest.split_at(n);
+    let (order, rest) = rest.split_at(n);
+    let (size, _) = rest.split_at(n);
+    let tables = Tables {
+        parent,
+        depth: depths,
+        head,
+        id,
+        order,
+        size,
+    };
+    let answer = match query {
+        Query::Root => root(&tables),
+        Query::Range(v) => return print_interval(rt, subtree_range(&tables, v)),
+        Query::Depth(v) => depth(&tables, v),
+        Query::Id(v) => vertex_id(&tables, v),
+        Query::Distance(u, v) => distance(&tables, u, v),
+        Query::Ancestor(v, k) => kth_ancestor(&tables, v, k),
+        Query::Size(r, v) => subtree_size(&tables, r, v),
+        Query::Lca(r, u, v) => lca(&tables, r, u, v),
+        Query::Jump(u, v, k) => jump(&tables, u, v, k),
+    };
+    print_answer(rt, answer)
 }

@@ -13,22 +13,75 @@
 #![tactic(auto)]
 
 mod ask;
-mod cases;
+mod given;
+mod query;
 
-use casetext::{NOWHERE, find, remark};
+use ask::ask;
+use casetext::cursor::Cursor;
+use casetext::{is_remark, print_head, print_malformed};
+use given::Given;
+use query::Query;
 use sample::{MAX_SAMPLE, read_sample};
 use std::io;
 use std::io::Print;
 
-// Runs each line with the tables above it.
-fn run(rt: &impl Print, text: &[u8]) -> io::Result<()> {
-    let mut tables = NOWHERE;
-    let mut at: usize = 0;
-    while at < text.len() {
-        if !remark(text, at) {
-            tables = cases::run_line(rt, text, tables, at)?;
+// Takes the word that a line with tables begins with, and the space that may part it from a name.
+fn pass_tables(cursor: &mut Cursor) -> Option<()> {
+    cursor.words(b"tables")?;
+    let _space = cursor.words(b" ");
+    Some(())
+}
+
+// Makes the changes of the case on this line, and returns the changed tables and the query.
+fn read_case<'a>(given: Option<Given<'a>>, line: &[u8]) -> Option<(Given<'a>, Query)> {
+    let mut given = given?;
+    let mut cursor = Cursor::new(line);
+    given.pass_name(&mut cursor)?;
+    given.change(&mut cursor);
+    let query = Query::read(&mut cursor)?;
+    if cursor.rest().is_empty() {
+        Some((given, query))
+    } else {
+        None
+    }
+}
+
+// Runs the case of this line on the tables given last.
+fn run_case(rt: &impl Print, given: Option<Given>, line: &[u8]) -> io::Result<()> {
+    match read_case(given, line) {
+        Some((changed, query)) => {
+            print_head(rt, line)?;
+            ask(rt, query, changed)
         }
-        at = find(text, at, b'\n') + 1;
+        None => print_malformed(rt, line),
+    }
+}
+
+// Runs a line, and returns the tables that are given last: none where those are malformed.
+fn run_line<'a>(
+    rt: &impl Print,
+    given: Option<Given<'a>>,
+    line: &'a [u8],
+) -> io::Result<Option<Given<'a>>> {
+    let mut cursor = Cursor::new(line);
+    if pass_tables(&mut cursor).is_none() {
+        run_case(rt, given, line)?;
+        return Ok(given);
+    }
+    let read = Given::read(cursor);
+    if read.is_none() {
+        print_malformed(rt, line)?;
+    }
+    Ok(read)
+}
+
+// Runs each line with the tables above it.
+fn run_all(rt: &impl Print, text: &[u8]) -> io::Result<()> {
+    let mut given: Option<Given> = None;
+    for line in text.split(|byte| *byte == b'\n') {
+        if !is_remark(line) {
+            given = run_line(rt, given, line)?;
+        }
     }
     Ok(())
 }
@@ -36,5 +89,5 @@ fn run(rt: &impl Print, text: &[u8]) -> io::Result<()> {
 fn main(rt: HostRuntime) -> io::Result<()> {
     let mut buffer = [0u8; MAX_SAMPLE];
     let count = read_sample(&mut rt.stdin(), &mut buffer)?;
-    run(&rt, &buffer[..count])
+    run_all(&rt, &buffer[..count])
 }

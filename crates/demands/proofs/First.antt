@@ -1,4 +1,5 @@
 -- Condition 1 holds of every result that the calls' contracts allow.
+use Rattle.std.specs.Prelude.{Ok, Err}
 use Prim.Native.Nat.{ℕ, ◌+◌, ◌*◌}
 use native.Mathlib.Omega.{arith}
 use native.Mathlib.Decide.{dec_le}
@@ -16,20 +17,14 @@ use Rattle.tables.specs.Tables.{Six}
 use Rattle.validate.proofs.Meaning.{validates-one}
 use Rattle.hld.proofs.Meaning.{builds-one}
 use Rattle.answers.specs.Choice.{pick}
-use Rattle.answers.specs.Answers.{answer_code, answer_values, interval_code, interval_values, listed_code, listed_values}
+use Rattle.answers.specs.Answers.{answer_code, answer_values, interval_code, interval_values, listed_code, listed_values, Answer, Interval, Listed}
 use Rattle.answers.specs.declared.answer.Refusal.TheVariants.{NoRoom}
-use Rattle.answers.specs.declared.answer.Answer.{Answer}
-use Rattle.answers.specs.declared.answer.Answer.TheVariants.{Is, TooFar, Refused}
-use Rattle.answers.specs.declared.answer.Interval.{Interval}
-use Rattle.answers.specs.declared.answer.Interval.TheVariants.{Between, Refused as NoInterval}
 use Rattle.answers.proofs.Choices.{pick_true, pick_false}
 use Rattle.ranges.specs.Flat.{stride, flat}
 use Rattle.ranges.specs.Calls.{Answered, refused, listed, ranges_of, room_answer, ListedAs}
 use Rattle.ranges.proofs.Slots.{flat-length}
 use Rattle.ranges.specs.declared.kinds.Kind.{Kind}
 use Rattle.ranges.specs.declared.kinds.PathRange.{PathRange}
-use Rattle.answers.specs.declared.answer.Listed.{Listed}
-use Rattle.answers.specs.declared.answer.Listed.TheVariants.{Count, Refused as NotListed}
 use Rattle.records.specs.Records.{RecordedAs, record_answer}
 use Rattle.records.proofs.Reading.{records-one}
 use Rattle.paths.specs.Lists.{front}
@@ -42,37 +37,36 @@ use Rattle.demands.proofs.Tests.{vertex-count_code, root_code, depth_code, verte
 
 -- a refused query answers no number
 pub number_free : (a : Answer) → answer_code a ≢ done → answer_values a ≡ []
-number_free (Is x) h = absurd (h refl)
-number_free TooFar h = refl
-number_free (Refused r) h = refl
+number_free (Ok x) h = absurd (h refl)
+number_free (Err r) h = refl
 
 -- nor an interval
 pub interval_free : (a : Interval) → interval_code a ≢ done → interval_values a ≡ []
-interval_free (Between a e) h = absurd (h refl)
-interval_free (NoInterval r) h = refl
+interval_free (Ok (a, e)) h = absurd (h refl)
+interval_free (Err r) h = refl
 
 -- nor a count
 pub count_free : (a : Listed) → listed_code a ≢ done → listed_values a ≡ []
-count_free (Count k) h = absurd (h refl)
-count_free (NotListed r) h = refl
+count_free (Ok k) h = absurd (h refl)
+count_free (Err r) h = refl
 
 -- a list with too little room is left alone, any other is written
 written_or_not :
     {X : Type 0} (need room k : ℕ) {whole lent left : List X} {r : Listed}
-    → r ≡ pick (leb need room) (Count k) (NotListed NoRoom) → left ≡ pick (leb need room) whole lent
-    → ((r ≡ Count k) × (left ≡ whole)) ⊎ ((r ≡ NotListed NoRoom) × (left ≡ lent))
+    → r ≡ pick (leb need room) (Ok k) (Err NoRoom) → left ≡ pick (leb need room) whole lent
+    → ((r ≡ Ok k) × (left ≡ whole)) ⊎ ((r ≡ Err NoRoom) × (left ≡ lent))
 written_or_not need room k {whole} {lent} e f = elim (dec_le need room) [
-  | yes h ↦ let t = le-leb need room h in inl (e ∙ pick_true (Count k) (NotListed NoRoom) t, f ∙ pick_true whole lent t)
-  | no h ↦ let t = lt-leb need room (omega arith) in inr (e ∙ pick_false (Count k) (NotListed NoRoom) t, f ∙ pick_false whole lent t)
+  | yes h ↦ let t = le-leb need room h in inl (e ∙ pick_true (Ok k) (Err NoRoom) t, f ∙ pick_true whole lent t)
+  | no h ↦ let t = lt-leb need room (omega arith) in inr (e ∙ pick_false (Ok k) (Err NoRoom) t, f ∙ pick_false whole lent t)
 ]
 
-module _ {X : Type 0} {whole lent left : List X} {r : Listed} {k : ℕ} (w : ((r ≡ Count k) × (left ≡ whole)) ⊎ ((r ≡ NotListed NoRoom) × (left ≡ lent))) where
+module _ {X : Type 0} {whole lent left : List X} {r : Listed} {k : ℕ} (w : ((r ≡ Ok k) × (left ≡ whole)) ⊎ ((r ≡ Err NoRoom) × (left ≡ lent))) where
   -- a list that is refused is unchanged
   kept : listed_code r ≢ done → left ≡ lent
   kept h = ⊎_elim (λ p. absurd (h (ap listed_code p.0))) (λ p. p.1) w
 
   -- a list that is counted was written
-  counted : {j : ℕ} → r ≡ Count j → (j ≡ k) × (left ≡ whole)
+  counted : {j : ℕ} → r ≡ Ok j → (j ≡ k) × (left ≡ whole)
   counted e = ⊎_elim (λ p. (let q = p.0 in cc, p.1)) (λ p. let q = p.0 in let z : ◌≡◌ {A = ℕ} 0 1 = cc in absurd (omega arith)) w
 
 -- the code of a call for ranges
@@ -134,14 +128,14 @@ records_kept (refused x) p h = p.list
 records_kept (listed l) {lent} p h = kept (written_or_not (length l) (length lent) (length l) p.answer p.list) h
 
 -- past the ranges the list is as it was
-ranges_past : (a : Answered) {lent left : List ℕ} {k : ℕ} → ListedAs a lent left (Count k) → drop (stride * k) left ≡ drop (stride * k) lent
+ranges_past : (a : Answered) {lent left : List ℕ} {k : ℕ} → ListedAs a lent left (Ok k) → drop (stride * k) left ≡ drop (stride * k) lent
 ranges_past (refused x) p = let e = p.answer in let z : ◌≡◌ {A = ℕ} 0 1 = cc in absurd (omega arith)
 ranges_past (listed l) {lent} {left} {k} p =
     let c = counted (written_or_not (stride * length l) (length lent) (length l) p.answer p.list) refl in
     rw (c.0, c.1) (drop_at (flat l) (drop (stride * length l) lent) (stride * length l) (flat-length l))
 
 -- and so with records
-records_past : (a : Answered) {lent left : List PathRange} {k : ℕ} → RecordedAs a lent left (Count k) → drop k left ≡ drop k lent
+records_past : (a : Answered) {lent left : List PathRange} {k : ℕ} → RecordedAs a lent left (Ok k) → drop k left ≡ drop k lent
 records_past (refused x) p = let e = p.answer in let z : ◌≡◌ {A = ℕ} 0 1 = cc in absurd (omega arith)
 records_past (listed l) {lent} {left} {k} p =
     let c = counted (written_or_not (length l) (length lent) (length l) p.answer p.list) refl in

@@ -1,4 +1,5 @@
 -- What is said of the answers in Rattle holds in C: one step from what a call answers to what it hands over.
+use Rattle.std.specs.Prelude.{Ok, Err}
 use Prim.Native.Nat.{ℕ, ◌*◌, ◌≤◌}
 use mathlib.Core.Path.{◌≡◌, refl, ap, ◌∙◌}
 use mathlib.Core.Logic.{◌≢◌}
@@ -6,14 +7,8 @@ use mathlib.Core.List.{List, ◌++◌}
 use lib.ListN.{length, drop}
 use borrow.Author.Tests.{le-leb}
 use Rattle.answers.specs.Codes.{done}
-use Rattle.answers.specs.Answers.{answer_code, answer_values, interval_code, interval_values, listed_code, listed_values}
-use Rattle.answers.specs.declared.answer.Refusal.TheVariants.{NoRoom}
-use Rattle.answers.specs.declared.answer.Answer.{Answer}
-use Rattle.answers.specs.declared.answer.Answer.TheVariants.{Is, TooFar}
-use Rattle.answers.specs.declared.answer.Interval.{Interval}
-use Rattle.answers.specs.declared.answer.Interval.TheVariants.{Between}
-use Rattle.answers.specs.declared.answer.Listed.{Listed}
-use Rattle.answers.specs.declared.answer.Listed.TheVariants.{Count, Refused}
+use Rattle.answers.specs.Answers.{answer_code, answer_values, interval_code, interval_values, listed_code, listed_values, Answer, Interval, Listed}
+use Rattle.answers.specs.declared.answer.Refusal.TheVariants.{NoRoom, TooFar}
 use Rattle.answers.proofs.Choices.{pick_true}
 use Rattle.tables.specs.Tables.{Six}
 use Rattle.ranges.specs.Flat.{stride, flat}
@@ -29,9 +24,9 @@ use Rattle.demands.proofs.Third.{third_demand}
 
 -- a caller sees an answer as it is
 record Sees (caller : Caller) : Type 0 where
-  number : (a : Answer) (x : ℕ) → a ≡ Is x → caller.number a x
-  too_far : (a : Answer) → a ≡ TooFar → caller.too_far a
-  interval : (i : Interval) (x y : ℕ) → i ≡ Between x y → caller.interval i x y
+  number : (a : Answer) (x : ℕ) → a ≡ Ok x → caller.number a x
+  too_far : (a : Answer) → a ≡ Err TooFar → caller.too_far a
+  interval : (i : Interval) (x y : ℕ) → i ≡ Ok (x, y) → caller.interval i x y
   ranges : (a : Answered) (l : List PathRange) → a ≡ listed l → caller.ranges a l
 
 -- so what is said of the answers holds as this caller sees them
@@ -60,8 +55,8 @@ handed_ranges :
     → stride * length l ≤ length lent → (code ≡ done) × (after ≡ length l) × (left ≡ flat l ++ drop (stride * length l) lent)
 handed_ranges a l e lent left before after code p h =
     let room = le-leb (stride * length l) (length lent) h in
-    let r : room_answer a (length lent) ≡ Count (length l) =
-    ap (λ (x : Answered). room_answer x (length lent)) e ∙ pick_true (Count (length l)) (Refused NoRoom) room in (
+    let r : room_answer a (length lent) ≡ Ok (length l) =
+    ap (λ (x : Answered). room_answer x (length lent)) e ∙ pick_true (Ok (length l)) (Err NoRoom) room in (
       p.count.code_given ∙ ap listed_code r,
       p.count.value_given ∙ ap (λ (x : Listed). first_or before (listed_values x)) r,
       p.list ∙ ap (λ (x : Answered). room_list x lent) e ∙ pick_true (flat l ++ drop (stride * length l) lent) lent room,

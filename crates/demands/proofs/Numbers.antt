@@ -1,4 +1,5 @@
 -- The tables of a numbering and the answers to queries on them, by the simple paths of the tree.
+use Rattle.std.specs.Prelude.{Ok}
 use Prim.Native.Nat.{ℕ, ◌<◌}
 use native.Mathlib.Omega.{arith}
 use mathlib.Core.Path.{◌≡◌, sym, ap, subst, ◌∙◌}
@@ -22,7 +23,6 @@ use Rattle.numbering.proofs.Subtrees.{anc_interval}
 use Rattle.numbering.proofs.Sizes.{size-count, id_order}
 use Rattle.tables.specs.Tables.{Six, kids_by_rule_one}
 use Rattle.queries.specs.Queries.{lca}
-use Rattle.answers.specs.declared.answer.Answer.TheVariants.{Is}
 use Rattle.pathlaws.specs.Given.{Given, path_in, through?}
 use Rattle.pathlaws.proofs.SingleEntries.{vertex_count_lem, root_answer, depth_answer, id_answer, range_answer}
 use Rattle.pathlaws.proofs.SimplePaths.{distance_simple, jump_simple, jump_simple_too_far, kth_simple, kth_simple_too_far, subtree_size_simple}
@@ -106,7 +106,7 @@ module _ {n root : ℕ} {A : ℕ → List ℕ} {t : Six} (G : Given n A root t (
   lca_deepest :
       Tree n A → {r u v : ℕ} (m : ℕ) → OnPath n A u r m → OnPath n A v r m
       → ((x : ℕ) → OnPath n A u r x → OnPath n A v r x → OnPath n A m r x)
-      → lca t r u v ≡ Is m
+      → lca t r u v ≡ Ok m
   lca_deepest tree {r} {u} {v} m p q deepest =
       let hu = p.1.below.0 in
       let hv = q.1.below.0 in
@@ -114,7 +114,7 @@ module _ {n root : ℕ} {A : ℕ → List ℕ} {t : Six} (G : Given n A root t (
       let H = tree_hangs tree (simple_last p.1) in
       let S = H.spans in
       lca_re_rooted G S hu hv
-      ∙ ap Is (sym (top_unique S.rooted m hu hv ((on_anc A S m hu).0 p) ((on_anc A S m hv).0 q)
+      ∙ ap Ok (sym (top_unique S.rooted m hu hv ((on_anc A S m hu).0 p) ((on_anc A S m hv).0 q)
       (λ x a b. (on_anc A S x hm).0 (deepest x ((on_anc A S x hu).1 a) ((on_anc A S x hv).1 b)))))
 
   -- the answers of the calls
@@ -122,7 +122,7 @@ module _ {n root : ℕ} {A : ℕ → List ℕ} {t : Six} (G : Given n A root t (
   answers tree = record {
     vertex_count = vertex_count_lem G;
     root_answer = root_answer G;
-    depth = λ s. depth_answer G s.below.0 ∙ ap Is (depth_of_lem s);
+    depth = λ s. depth_answer G s.below.0 ∙ ap Ok (depth_of_lem s);
     vertex_id = λ hv. id_answer G hv;
     subtree_range = λ hv. range_answer G hv;
     distance = λ s. distance_simple G s;

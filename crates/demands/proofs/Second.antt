@@ -1,4 +1,5 @@
 -- Condition 2 holds of every result that the calls' contracts allow.
+use Rattle.std.specs.Prelude.{Ok}
 use Prim.Native.Nat.{ℕ, ◌≤◌, ◌<◌}
 use native.Mathlib.Omega.{arith}
 use mathlib.Core.Path.{◌≡◌, refl}
@@ -9,7 +10,6 @@ use Rattle.sums.specs.Sum.{at}
 use Rattle.paths.specs.Tree.{Tree}
 use Rattle.answers.specs.Codes.{done, no_room}
 use Rattle.answers.specs.Limits.{max_vertices}
-use Rattle.answers.specs.declared.answer.Answer.TheVariants.{Is}
 use Rattle.graph.specs.Judgement.{test}
 use Rattle.graph.specs.Lent.{vertices, list_of}
 use Rattle.graph.specs.Validation.{Sized, room_of, validation, graph_tests}
@@ -38,7 +38,7 @@ tree_passes {os} {ts} {root} i t =
 
 -- an entry is read from a table beside another of its length
 entry_read : {os ts : List ℕ} (table other : List ℕ) (c : ℕ) → Sized os ts → length table ≡ vertices os → length other ≡ vertices os → c < vertices os
-    → read_of table other c ≡ Is (at table c)
+    → read_of table other c ≡ Ok (at table c)
 entry_read {os} table other c s e f h =
     rw (
       e,

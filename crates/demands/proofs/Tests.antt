@@ -1,7 +1,8 @@
 -- The codes of queries, of ranges and of range room are those of the first test that is not passed.
+use Rattle.std.specs.Prelude.{Ok, Err}
 use Prim.Native.Nat.{ℕ, zero, suc, ◌-◌, ◌+◌, ◌*◌, ◌≤◌}
 use native.Mathlib.Omega.{arith}
-use mathlib.Core.Path.{◌≡◌, refl, sym, ◌∙◌}
+use mathlib.Core.Path.{◌≡◌, refl, sym, ◌∙◌, subst}
 use mathlib.Core.Logic.{inl, inr, ◌≢◌}
 use mathlib.Core.Bool.{Bool, true, false, true≢false}
 use mathlib.Core.List.{List, [], ◌∷◌}
@@ -15,25 +16,19 @@ use Rattle.answers.specs.Limits.{max_vertices, no_parent}
 use Rattle.answers.specs.Codes.{bad_size, no_room, bad_vertex, bad_table}
 use Rattle.answers.specs.Choice.{pick, both}
 use Rattle.answers.specs.Asked.{sized?, vertices?, asked_of}
-use Rattle.answers.specs.Answers.{answer_code, interval_code, listed_code}
+use Rattle.answers.specs.Answers.{answer_code, interval_code, listed_code, Answer, Interval, Listed}
 use Rattle.answers.specs.declared.answer.Refusal.{Refusal}
-use Rattle.answers.specs.declared.answer.Refusal.TheVariants.{BadSize, NoRoom, BadVertex, BadTable}
-use Rattle.answers.specs.declared.answer.Answer.{Answer}
-use Rattle.answers.specs.declared.answer.Answer.TheVariants.{Is, TooFar, Refused}
-use Rattle.answers.specs.declared.answer.Interval.TheVariants.{Between, Refused as NoInterval}
-use Rattle.answers.specs.declared.answer.Listed.{Listed}
-use Rattle.answers.specs.declared.answer.Listed.TheVariants.{Count, Refused as NotListed}
+use Rattle.answers.specs.declared.answer.Refusal.TheVariants.{BadSize, NoRoom, BadVertex, BadTable, TooFar}
 use Rattle.answers.proofs.Choices.{both_true, all_in, in_all}
 use Rattle.answers.proofs.Passed.{sizes}
 use Rattle.graph.specs.Judgement.{Test, test, First}
 use Rattle.tables.specs.Tables.{Six}
 use Rattle.climb.specs.Asked.{size_of, others_of, asked}
 use Rattle.climb.specs.Sound.{depth_in, id_in, sound?, Stood, On, Unsound, stand_on}
-use Rattle.climb.specs.Climbing.{climb_to, ancestor_of}
+use Rattle.climb.specs.Climbing.{Climbed, climb_to, ancestor_of}
+use Rattle.climb.proofs.Climbs.{climb_bad}
 use Rattle.climb.specs.declared.places.Place.{Place}
 use Rattle.climb.specs.declared.places.Climb.{Climb}
-use Rattle.climb.specs.declared.places.Climbed.{Climbed}
-use Rattle.climb.specs.declared.places.Climbed.TheVariants.{Met, Lost}
 use Rattle.queries.specs.Queries.{entry_at, size_sound?, deeper, ancestor_from, ancestor_in, distance_in, lca_in, jump_in, without_child, re_rooted_size, vertex_count, root_of, depth_of, vertex_id, subtree_range, kth_ancestor, subtree_size, distance, lca, jump}
 use Rattle.ranges.specs.Calls.{Answered, refused, listed, ranges_of, range_room, from_found}
 use Rattle.ranges.specs.Ranges.{Found, lost, found, path_ranges}
@@ -77,25 +72,28 @@ module _ {X : Type 0} (code : X → ℕ) (f : Refusal → X) (size : code (f Bad
 -- What a query answers once it is asked: a value, 10 or 9.
 
 data Own : Answer → Type 0 where
-  is : (x : ℕ) → Own (Is x)
-  far : Own TooFar
-  bad : Own (Refused BadTable)
+  is : (x : ℕ) → Own (Ok x)
+  far : Own (Err TooFar)
+  bad : Own (Err BadTable)
 
 own_first : (a : Answer) → Own a → First (answering a) (answer_code a)
 own_first a (is x) =
-    inr (λ e. (let z : ◌≡◌ {A = ℕ} 0 1 = cc in absurd (omega arith)), inr (λ e. (let z : ◌≡◌ {A = ℕ} 0 1 = cc in absurd (omega arith)), refl))
-own_first a far = inr (λ e. (let z : ◌≡◌ {A = ℕ} 0 1 = cc in absurd (omega arith)), inl (λ h. h refl, refl))
+    inr (λ e. absurd (cc), inr (λ e. absurd (cc), refl))
+own_first a far = inr (λ e. absurd (cc), inl (λ h. h refl, refl))
 own_first a bad = inl (λ h. h refl, refl)
 
 own-pick : (b : Bool) {x y : Answer} → Own x → Own y → Own (pick b x y)
 own-pick true p q = p
 own-pick false p q = q
 
-own-climb : (r : Climbed) (f : Climb → Answer) → ((c : Climb) → Own (f c)) → Own (elim r [ Met c ↦ f c | Lost ↦ Refused BadTable ])
-own-climb (Met c) f h = h c
-own-climb Lost f h = bad
+own-climb : (n : ℕ) (t : Six) (u v : ℕ) (f : Climb → Answer) → ((c : Climb) → Own (f c)) → Own (elim (climb_to n t u v) [ Ok c ↦ f c | Err e ↦ Err e ])
+own-climb n t u v f h = told (climb_to n t u v) refl
+  where
+    told : (r : Climbed) → climb_to n t u v ≡ r → Own (elim r [ Ok c ↦ f c | Err e ↦ Err e ])
+    told (Ok c) e = h c
+    told (Err x) e = subst (λ (y : Refusal). Own (Err y)) (sym (climb_bad n t u v e)) bad
 
-own_stood : (s : Stood) (f : Place → Answer) → ((p : Place) → Own (f p)) → Own (elim s [ On p ↦ f p | Unsound ↦ Refused BadTable ])
+own_stood : (s : Stood) (f : Place → Answer) → ((p : Place) → Own (f p)) → Own (elim s [ On p ↦ f p | Unsound ↦ Err BadTable ])
 own_stood (On p) f h = h p
 own_stood Unsound f h = bad
 
@@ -119,13 +117,13 @@ own_ancestor n t v k = own_stood (stand_on n t v) (λ p. ancestor_from (log2 n) 
 
 own-lca : (n : ℕ) (t : Six) (r u v : ℕ) → Own (lca_in n t r u v)
 own-lca n t r u v =
-    own-climb (climb_to n t u v) _
-    (λ a. own-climb (climb_to n t r u) _
-    (λ b. own-climb (climb_to n t r v) _ (λ c. is (deeper (deeper (ancestor_of a) (ancestor_of b)) (ancestor_of c)).vertex)))
+    own-climb n t u v _
+    (λ a. own-climb n t r u _
+    (λ b. own-climb n t r v _ (λ c. is (deeper (deeper (ancestor_of a) (ancestor_of b)) (ancestor_of c)).vertex)))
 
 own-jump : (n : ℕ) (t : Six) (u v k : ℕ) → Own (jump_in n t u v k)
 own-jump n t u v k =
-    own-climb (climb_to n t u v) _
+    own-climb n t u v _
     (λ c.
     let up = depth_in t u - (ancestor_of c).depth in
     let down = depth_in t v - (ancestor_of c).depth in
@@ -148,21 +146,21 @@ own_size n t r v =
 -- Each query.
 
 module _ (t : Six) where
-  queried : (vs : List ℕ) (x : Answer) → Own x → Queried t vs (asked t vs Refused x)
-  queried vs x p = asked_first answer_code Refused refl refl answering (size_of t) (others_of t) vs x (own_first x p)
+  queried : (vs : List ℕ) (x : Answer) → Own x → Queried t vs (asked t vs Err x)
+  queried vs x p = asked_first answer_code Err refl refl answering (size_of t) (others_of t) vs x (own_first x p)
 
   pub vertex-count_code : Queried t [] (vertex_count t)
-  vertex-count_code = queried [] (Is (size_of t)) (is (size_of t))
+  vertex-count_code = queried [] (Ok (size_of t)) (is (size_of t))
 
   pub root_code : Queried t [] (root_of t)
   root_code =
       let x = at t.order 0 in
-      queried [] (pick (both (ltb x (size_of t)) (sound? (size_of t) t x)) (Is x) (Refused BadTable))
+      queried [] (pick (both (ltb x (size_of t)) (sound? (size_of t) t x)) (Ok x) (Err BadTable))
       (own-pick (both (ltb x (size_of t)) (sound? (size_of t) t x)) (is x) bad)
 
   -- a number that is read of a sound vertex
-  read_code : (v x : ℕ) → Queried t (v ∷ []) (asked t (v ∷ []) Refused (pick (sound? (size_of t) t v) (Is x) (Refused BadTable)))
-  read_code v x = queried (v ∷ []) (pick (sound? (size_of t) t v) (Is x) (Refused BadTable)) (own-pick (sound? (size_of t) t v) (is x) bad)
+  read_code : (v x : ℕ) → Queried t (v ∷ []) (asked t (v ∷ []) Err (pick (sound? (size_of t) t v) (Ok x) (Err BadTable)))
+  read_code v x = queried (v ∷ []) (pick (sound? (size_of t) t v) (Ok x) (Err BadTable)) (own-pick (sound? (size_of t) t v) (is x) bad)
 
   pub depth_code : (v : ℕ) → Queried t (v ∷ []) (depth_of t v)
   depth_code v = read_code v (depth_in t v)
@@ -173,7 +171,7 @@ module _ (t : Six) where
   pub distance_code : (u v : ℕ) → Queried t (u ∷ v ∷ []) (distance t u v)
   distance_code u v =
       queried (u ∷ v ∷ []) (distance_in (size_of t) t u v)
-      (own-climb (climb_to (size_of t) t u v) _ (λ c. is (depth_in t u + depth_in t v - 2 * (ancestor_of c).depth)))
+      (own-climb (size_of t) t u v _ (λ c. is (depth_in t u + depth_in t v - 2 * (ancestor_of c).depth)))
 
   pub lca_code : (r u v : ℕ) → Queried t (r ∷ u ∷ v ∷ []) (lca t r u v)
   lca_code r u v = queried (r ∷ u ∷ v ∷ []) (lca_in (size_of t) t r u v) (own-lca (size_of t) t r u v)
@@ -187,30 +185,30 @@ module _ (t : Six) where
   pub subtree_size_code : (r v : ℕ) → Queried t (r ∷ v ∷ []) (subtree_size t r v)
   subtree_size_code r v =
       let n = size_of t in
-      queried (r ∷ v ∷ []) (pick (both (sound? n t r) (sound? n t v)) (pick (eqb r v) (Is n) (re_rooted_size n t r v)) (Refused BadTable))
+      queried (r ∷ v ∷ []) (pick (both (sound? n t r) (sound? n t v)) (pick (eqb r v) (Ok n) (re_rooted_size n t r v)) (Err BadTable))
       (own-pick (both (sound? n t r) (sound? n t v)) (own-pick (eqb r v) (is n) (own_size n t r v)) bad)
 
-  ends_first : (b : Bool) (x y : ℕ) → let i = pick b (Between x y) (NoInterval BadTable) in First (test bad_table (i ≢ NoInterval BadTable) ∷ []) (interval_code i)
-  ends_first true x y = inr (λ e. (let z : ◌≡◌ {A = ℕ} 0 1 = cc in absurd (omega arith)), refl)
+  ends_first : (b : Bool) (x y : ℕ) → let i : Interval = pick b (Ok (x, y)) (Err BadTable) in First (test bad_table (i ≢ Err BadTable) ∷ []) (interval_code i)
+  ends_first true x y = inr (λ e. absurd (cc), refl)
   ends_first false x y = inl (λ h. h refl, refl)
 
   pub subtree-range_code : (v : ℕ) → QueriedEnds t (v ∷ []) (subtree_range t v)
   subtree-range_code v =
       let n = size_of t in
       let b = both (sound? n t v) (size_sound? n t v) in
-      asked_first interval_code NoInterval refl refl (λ i. test bad_table (i ≢ NoInterval BadTable) ∷ []) n (others_of t) (v ∷ [])
-      (pick b (Between (id_in t v) (id_in t v + at t.size v)) (NoInterval BadTable)) (ends_first b (id_in t v) (id_in t v + at t.size v))
+      asked_first interval_code Err refl refl (λ i. test bad_table (i ≢ Err BadTable) ∷ []) n (others_of t) (v ∷ [])
+      (pick b (Ok (id_in t v, id_in t v + at t.size v)) (Err BadTable)) (ends_first b (id_in t v) (id_in t v + at t.size v))
 
 -- a read of a decomposition
 pub read-two_code : (table other : List ℕ) (v : ℕ) → QueriedTwo table other v (read_of table other v)
 read-two_code table other v =
-    asked_first answer_code Refused refl refl answering (length table) (length other ∷ []) (v ∷ []) (Is (at table v)) (own_first (Is (at table v)) (is (at table v)))
+    asked_first answer_code Err refl refl answering (length table) (length other ∷ []) (v ∷ []) (Ok (at table v)) (own_first (Ok (at table v)) (is (at table v)))
 
 -- range room
 pub range_room_code : (n : ℕ) → First (test bad_size (Lengths n []) ∷ []) (answer_code (range_room n))
 range_room_code n = told (both (leb 1 n) (leb n max_vertices)) refl
   where
-    told : (b : Bool) → both (leb 1 n) (leb n max_vertices) ≡ b → First (test bad_size (Lengths n []) ∷ []) (answer_code (pick b (Is (2 * log2 n + 1)) (Refused BadSize)))
+    told : (b : Bool) → both (leb 1 n) (leb n max_vertices) ≡ b → First (test bad_size (Lengths n []) ∷ []) (answer_code (pick b (Ok (2 * log2 n + 1)) (Err BadSize)))
     told true e =
         let h = both_true (leb 1 n) (leb n max_vertices) e in
         inr (record { some = leb-true 1 n h.0; few = leb-true n max_vertices h.1; same = λ l i. absurd i }, refl)
@@ -221,8 +219,8 @@ range_room_code n = told (both (leb 1 n) (leb n max_vertices)) refl
 module _ (need : ℕ → ℕ) (room : ℕ) where
   -- the answer of a call for a list with so much room
   abbrev pub answer_for : Answered → Listed
-  answer_for (refused x) = NotListed x
-  answer_for (listed l) = pick (leb (need (length l)) room) (Count (length l)) (NotListed NoRoom)
+  answer_for (refused x) = Err x
+  answer_for (listed l) = pick (leb (need (length l)) room) (Ok (length l)) (Err NoRoom)
 
   abbrev range_tests : Answered → List Test
   range_tests a = test bad_table (a ≢ refused BadTable) ∷ test no_room ((l : List PathRange) → a ≡ listed l → need (length l) ≤ room) ∷ []
@@ -230,10 +228,10 @@ module _ (need : ℕ → ℕ) (room : ℕ) where
   listed_first : (l : List PathRange) → First (range_tests (listed l)) (listed_code (answer_for (listed l)))
   listed_first l = told (leb (need (length l)) room) refl
     where
-      told : (b : Bool) → leb (need (length l)) room ≡ b → First (range_tests (listed l)) (listed_code (pick b (Count (length l)) (NotListed NoRoom)))
-      told true e = inr (λ h. (let z : ◌≡◌ {A = ℕ} 0 1 = cc in absurd (omega arith)), inr (λ m h. (let z : m ≡ l = cc in rw z (leb-true (need (length l)) room e)), refl))
+      told : (b : Bool) → leb (need (length l)) room ≡ b → First (range_tests (listed l)) (listed_code (pick b (Ok (length l)) (Err NoRoom)))
+      told true e = inr (λ h. absurd (cc), inr (λ m h. (let z : m ≡ l = cc in rw z (leb-true (need (length l)) room e)), refl))
       told false e =
-          inr (λ h. (let z : ◌≡◌ {A = ℕ} 0 1 = cc in absurd (omega arith)), inl (λ h. (let a : need (length l) ≤ room = h l refl in let b = leb-false (need (length l)) room e in omega arith), refl))
+          inr (λ h. absurd (cc), inl (λ h. (let a : need (length l) ≤ room = h l refl in let b = leb-false (need (length l)) room e in omega arith), refl))
 
   found_first : (f : Found) → First (range_tests (from_found f)) (listed_code (answer_for (from_found f)))
   found_first lost = inl (λ h. h refl, refl)

@@ -1,4 +1,5 @@
 -- Condition 3 holds after every build that answered 0.
+use Rattle.std.specs.Prelude.{Ok, Err}
 use Prim.Native.Nat.{ℕ, ◌+◌, ◌*◌, ◌≤◌, ◌<◌}
 use native.Mathlib.Omega.{arith}
 use mathlib.Core.Path.{◌≡◌, sym, subst, ◌∙◌}
@@ -12,8 +13,6 @@ use Rattle.numbering.specs.Log.{log2}
 use Rattle.numbering.proofs.Logs.{log2_low, log2_high}
 use Rattle.tables.specs.Tables.{Six}
 use Rattle.queries.specs.Queries.{lca}
-use Rattle.answers.specs.declared.answer.Answer.{Answer}
-use Rattle.answers.specs.declared.answer.Answer.TheVariants.{Is}
 use Rattle.answers.specs.declared.answer.Refusal.TheVariants.{NoRoom}
 use Rattle.answers.proofs.Choices.{pick_true}
 use Rattle.pathlaws.specs.Given.{Given}
@@ -24,8 +23,6 @@ use Rattle.ranges.specs.Calls.{Answered, listed, ranges_of, ListedAs}
 use Rattle.ranges.specs.declared.kinds.PathRange.{PathRange}
 use Rattle.ranges.specs.declared.kinds.Kind.{Kind}
 use Rattle.ranges.specs.declared.kinds.Kind.TheVariants.{Vertices}
-use Rattle.answers.specs.declared.answer.Listed.{Listed}
-use Rattle.answers.specs.declared.answer.Listed.TheVariants.{Count, Refused}
 use Rattle.ranges.proofs.Few.{ranges_enough}
 use Rattle.readings.proofs.Bounds.{ranges_room}
 use Rattle.readings.proofs.PathReadings.{ranges_turn}
@@ -35,9 +32,10 @@ use Rattle.demands.specs.Numbers.{OnPath}
 use Rattle.demands.specs.Third.{OnAllThree, InEveryOrder, Routes, RangeRoom, ThirdDemand}
 use Rattle.demands.proofs.Passed.{build_given}
 use Rattle.demands.proofs.Found.{ranges_of_lem, ranges_there}
+use Rattle.answers.specs.Answers.{Answer, Listed}
 
 -- two numbers answered to one question are one
-one_number : {a : Answer} {x y : ℕ} → a ≡ Is x → a ≡ Is y → x ≡ y
+one_number : {a : Answer} {x y : ℕ} → a ≡ Ok x → a ≡ Ok y → x ≡ y
 one_number e f = cc
 
 module _ {n root : ℕ} {A : ℕ → List ℕ} {t : Six} {kids : ℕ → List ℕ} (G : Given n A root t kids) where
@@ -49,34 +47,34 @@ module _ {n root : ℕ} {A : ℕ → List ℕ} {t : Six} {kids : ℕ → List �
   list_whole :
       (kind : Kind) {u v : ℕ} → u < n → v < n → {lent left : List ℕ} {r : Listed} → ListedAs (ranges_of kind t u v) lent left r
       → stride * (2 * log2 n + 1) ≤ length lent
-      → (l : List PathRange) × (ranges_of kind t u v ≡ listed l) × (r ≡ Count (length l)) × (left ≡ flat l ++ drop (stride * length l) lent)
+      → (l : List PathRange) × (ranges_of kind t u v ≡ listed l) × (r ≡ Ok (length l)) × (left ≡ flat l ++ drop (stride * length l) lent)
   list_whole kind hu hv {lent} {left} {r} p h =
       let f = ranges_there G kind hu hv in
       let l : List PathRange = f.0 in
       let few = ranges_few kind hu hv f.1 in
       let q = subst (λ (b : Answered). ListedAs b lent left r) f.1 p in
       let e = le-leb (stride * length l) (length lent) (omega arith) in
-      (l, f.1, q.answer ∙ pick_true (Count (length l)) (Refused NoRoom) e, q.list ∙ pick_true (flat l ++ drop (stride * length l) lent) lent e)
+      (l, f.1, q.answer ∙ pick_true (Ok (length l)) (Err NoRoom) e, q.list ∙ pick_true (flat l ++ drop (stride * length l) lent) lent e)
 
   -- so does a slice of records
   record_whole :
       (kind : Kind) {u v : ℕ} → u < n → v < n → {lent left : List PathRange} {r : Listed} → RecordedAs (ranges_of kind t u v) lent left r
       → 2 * log2 n + 1 ≤ length lent
-      → (l : List PathRange) × (ranges_of kind t u v ≡ listed l) × (r ≡ Count (length l)) × (left ≡ l ++ drop (length l) lent)
+      → (l : List PathRange) × (ranges_of kind t u v ≡ listed l) × (r ≡ Ok (length l)) × (left ≡ l ++ drop (length l) lent)
   record_whole kind hu hv {lent} {left} {r} p h =
       let f = ranges_there G kind hu hv in
       let l : List PathRange = f.0 in
       let few = ranges_few kind hu hv f.1 in
       let q = subst (λ (b : Answered). RecordedAs b lent left r) f.1 p in
       let e = le-leb (length l) (length lent) (omega arith) in
-      (l, f.1, q.answer ∙ pick_true (Count (length l)) (Refused NoRoom) e, q.list ∙ pick_true (l ++ drop (length l) lent) lent e)
+      (l, f.1, q.answer ∙ pick_true (Ok (length l)) (Err NoRoom) e, q.list ∙ pick_true (l ++ drop (length l) lent) lent e)
 
   -- a vertex of a simple path is one of the tree
   on_vertex : {u v w : ℕ} → OnPath n A u v w → w < n
   on_vertex {u} {v} {w} p = in-below n w (u ∷ p.0) p.1.below p.2
 
   -- a vertex on all three paths is the answer of `lca`
-  common-lca : (m : ℕ) {r u v : ℕ} → OnAllThree n A r u v m → lca t r u v ≡ Is m
+  common-lca : (m : ℕ) {r u v : ℕ} → OnAllThree n A r u v m → lca t r u v ≡ Ok m
   common-lca m c = lca_simple G m c.from_u_to_v.1 c.from_r_to_u.1 c.from_r_to_v.1 c.from_u_to_v.2 c.from_r_to_u.2 c.from_r_to_v.2
 
   -- there is exactly one, and it is the answer in every order

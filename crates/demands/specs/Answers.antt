@@ -1,17 +1,13 @@
 -- What condition 2 asks of the answers to calls on the tables of a build: "every .. ancestor, path .. right". It is said once, for any caller: in Rattle
 -- an answer is a value; what it is in C says specs/InC.antt.
-use Rattle.std.specs.Prelude.{ℕ, ◌+◌, ◌*◌, ◌≤◌, ◌<◌, ◌≡◌, ◌≢◌, Bool, List, ◌∷◌, map, length}
+use Rattle.std.specs.Prelude.{ℕ, ◌+◌, ◌*◌, ◌≤◌, ◌<◌, ◌≡◌, ◌≢◌, Bool, List, ◌∷◌, map, length, Ok, Err}
 use Rattle.sums.specs.Sum.{at, how_many}
 use Rattle.paths.specs.Walk.{Stands, Simple}
 use Rattle.numbering.specs.Log.{log2}
 use Rattle.answers.specs.Limits.{max_vertices}
 use Rattle.tables.specs.Tables.{Six}
 use Rattle.queries.specs.Queries.{vertex_count, root_of, depth_of, vertex_id, subtree_range, kth_ancestor as ancestor_of, subtree_size, distance as distance_of, lca as lca_of, jump as jump_of}
-use Rattle.answers.specs.declared.answer.Refusal.TheVariants.{BadTable}
-use Rattle.answers.specs.declared.answer.Answer.{Answer}
-use Rattle.answers.specs.declared.answer.Answer.TheVariants.{Is, TooFar}
-use Rattle.answers.specs.declared.answer.Interval.{Interval}
-use Rattle.answers.specs.declared.answer.Interval.TheVariants.{Between}
+use Rattle.answers.specs.declared.answer.Refusal.TheVariants.{BadTable, TooFar}
 use Rattle.pathlaws.specs.NeverNine.{NeverNine}
 use Rattle.ranges.specs.Calls.{Answered, refused, listed, ranges_of, range_room}
 use Rattle.ranges.specs.Readings.{reading, edge_numbers, both_numbers}
@@ -20,6 +16,7 @@ use Rattle.ranges.specs.declared.kinds.Kind.{Kind}
 use Rattle.ranges.specs.declared.kinds.Kind.TheVariants.{Vertices, Edges, Both}
 use Rattle.centroid.specs.Reads.{read_of}
 use Rattle.demands.specs.Numbers.{OnPath, PicksSubtree}
+use Rattle.answers.specs.Answers.{Answer, Interval}
 
 -- how a caller sees that the answer is this number, that it is the refusal 10, that it is this interval, that these are the ranges
 pub record Caller : Type 1 where
@@ -30,7 +27,7 @@ pub record Caller : Type 1 where
 
 -- in Rattle, by the answer itself
 abbrev pub in_rattle : Caller
-in_rattle = record { number = λ a x. a ≡ Is x; too_far = λ a. a ≡ TooFar; interval = λ i x y. i ≡ Between x y; ranges = λ a l. a ≡ listed l }
+in_rattle = record { number = λ a x. a ≡ Ok x; too_far = λ a. a ≡ Err TooFar; interval = λ i x y. i ≡ Ok (x, y); ranges = λ a l. a ≡ listed l }
 
 -- the answers of the calls on the tables t of the tree of n vertices with the lists A, as this caller sees them
 pub record Answers (caller : Caller) (n : ℕ) (A : ℕ → List ℕ) (root : ℕ) (t : Six) : Type 0 where

@@ -3,7 +3,7 @@
 -- No public call has a `requires`. Its proof then says that it ends without a fault on every input and that its contract holds; so there is nothing
 -- to state of that here. The rest of the sentence is stated of the contracts. The calls that take a graph (`Validates`, `Builds`, `Decomposes`,
 -- `Lists`) have what they have in common in one contract, `GraphCall`.
-use Rattle.std.specs.Prelude.{ℕ, ◌+◌, ◌*◌, ◌≡◌, ◌≢◌, List, [], ◌∷◌, length, drop}
+use Rattle.std.specs.Prelude.{ℕ, ◌+◌, ◌*◌, ◌≡◌, ◌≢◌, List, [], ◌∷◌, length, drop, Ok}
 use Rattle.sums.specs.Sum.{at}
 use Rattle.answers.specs.Codes.{done, bad_size}
 use Rattle.graph.specs.Judgement.{test, First}
@@ -12,15 +12,11 @@ use Rattle.graph.specs.Validation.{Sized, Fits, room_of, Leaves, validation, Val
 use Rattle.tables.specs.Tables.{Six, Long}
 use Rattle.hld.specs.Build.{building, Builds}
 use Rattle.queries.specs.Queries.{vertex_count, root_of, depth_of, vertex_id, subtree_range, kth_ancestor, subtree_size, distance as distance_of, lca as lca_of, jump as jump_of}
-use Rattle.answers.specs.Answers.{answer_code, answer_values, interval_code, interval_values, listed_code, listed_values}
-use Rattle.answers.specs.declared.answer.Answer.{Answer}
-use Rattle.answers.specs.declared.answer.Interval.{Interval}
+use Rattle.answers.specs.Answers.{answer_code, answer_values, interval_code, interval_values, listed_code, listed_values, Answer, Interval, Listed}
 use Rattle.ranges.specs.Flat.{stride}
 use Rattle.ranges.specs.Calls.{Answered, ranges_of, range_room, ListedAs}
 use Rattle.ranges.specs.declared.kinds.Kind.{Kind}
 use Rattle.ranges.specs.declared.kinds.PathRange.{PathRange}
-use Rattle.answers.specs.declared.answer.Listed.{Listed}
-use Rattle.answers.specs.declared.answer.Listed.TheVariants.{Count}
 use Rattle.records.specs.Records.{RecordedAs}
 use Rattle.centroid.specs.Calls.{two, TwoLong, decomposing, Decomposes, listing, Lists}
 use Rattle.centroid.specs.Reads.{read_of}
@@ -75,8 +71,8 @@ pub record NothingWritten : Type 0 where
 
 -- "Entries of a list past its count are unchanged."
 pub record PastCount : Type 0 where
-  pub ranges : {a : Answered} {lent left : List ℕ} {k : ℕ} → ListedAs a lent left (Count k) → drop (stride * k) left ≡ drop (stride * k) lent
-  pub range_records : {a : Answered} {lent left : List PathRange} {k : ℕ} → RecordedAs a lent left (Count k) → drop k left ≡ drop k lent
+  pub ranges : {a : Answered} {lent left : List ℕ} {k : ℕ} → ListedAs a lent left (Ok k) → drop (stride * k) left ≡ drop (stride * k) lent
+  pub range_records : {a : Answered} {lent left : List PathRange} {k : ℕ} → RecordedAs a lent left (Ok k) → drop k left ≡ drop k lent
   -- the last of the n+1 starts is the number of entries
   pub component_lists :
       {os ts vs ds bs ss w vs' ds' bs' ss' w' : List ℕ} → Lists os ts vs ds bs ss w vs' ds' bs' ss' w' done

@@ -2,8 +2,6 @@
 -- holds there as it stands. Of the others the code is the result, and what is answered arrives in memory that the caller lends (crates/relaypath).
 use Rattle.std.specs.Prelude.{ℕ, ◌*◌, ◌≤◌, ◌≡◌, ◌≢◌, List, length}
 use Rattle.answers.specs.Codes.{done, too_far}
-use Rattle.answers.specs.declared.answer.Answer.{Answer}
-use Rattle.answers.specs.declared.answer.Interval.{Interval}
 use Rattle.graph.specs.Lent.{vertices, list_of}
 use Rattle.tables.specs.Tables.{Six}
 use Rattle.hld.specs.Build.{Builds}
@@ -13,6 +11,7 @@ use Rattle.centroid.specs.Calls.{Decomposes}
 use Rattle.relaypath.specs.Handed.{Handed, HandedEnds}
 use Rattle.relaypath.specs.Listing.{HandedList}
 use Rattle.demands.specs.Answers.{Caller, Answers, Reads, RoomAnswer}
+use Rattle.answers.specs.Answers.{Answer, Interval}
 
 -- the code is 0 and the number stands in `*answer`; the code is 10 and `*answer` is as it was; the code is 0 and the ends stand in `*start` and `*end`;
 -- where the list has room the code is 0, their number stands in `*count` and the ranges at the front of the list, the rest of which is as it was

@@ -1,15 +1,11 @@
 -- 01, "Codes": the tests of a call on lent tables. "A query tests 1, then 4; 9 and 10 come as the climb meets them; 2 for lists is last." As with the
 -- calls that take a graph they stand in a list, and the code is that of the first that is not passed (`First`): so each code is given exactly then.
-use Rattle.std.specs.Prelude.{ℕ, ◌≤◌, ◌≡◌, ◌≢◌, List, [], ◌∷◌, length}
+use Rattle.std.specs.Prelude.{ℕ, ◌≤◌, ◌≡◌, ◌≢◌, List, [], ◌∷◌, length, Err}
 use Rattle.paths.specs.Walk.{In, Below}
 use Rattle.answers.specs.Codes.{bad_size, no_room, bad_vertex, bad_table, too_far}
 use Rattle.answers.specs.Limits.{max_vertices}
-use Rattle.answers.specs.Answers.{answer_code, interval_code}
-use Rattle.answers.specs.declared.answer.Refusal.TheVariants.{BadTable}
-use Rattle.answers.specs.declared.answer.Answer.{Answer}
-use Rattle.answers.specs.declared.answer.Answer.TheVariants.{TooFar, Refused}
-use Rattle.answers.specs.declared.answer.Interval.{Interval}
-use Rattle.answers.specs.declared.answer.Interval.TheVariants.{Refused as NoInterval}
+use Rattle.answers.specs.Answers.{answer_code, interval_code, Answer, Interval}
+use Rattle.answers.specs.declared.answer.Refusal.TheVariants.{BadTable, TooFar}
 use Rattle.graph.specs.Judgement.{Test, test, First}
 use Rattle.tables.specs.Tables.{Six}
 use Rattle.climb.specs.Asked.{size_of, others_of}
@@ -28,7 +24,7 @@ asking n lengths vs own = test bad_size (Lengths n lengths) ∷ test bad_vertex 
 
 -- "9 and 10 come as the climb meets them": the definition of the query met no unsound entry, and no number too large
 abbrev pub answering : Answer → List Test
-answering a = test bad_table (a ≢ Refused BadTable) ∷ test too_far (a ≢ TooFar) ∷ []
+answering a = test bad_table (a ≢ Err BadTable) ∷ test too_far (a ≢ (Err TooFar)) ∷ []
 
 -- the code of a query on six tables with these vertices as arguments; on two tables
 abbrev pub Queried : Six → List ℕ → Answer → Type 0
@@ -39,7 +35,7 @@ QueriedTwo table other v a = First (asking (length table) (length other ∷ []) 
 
 -- and of a query for an interval
 abbrev pub QueriedEnds : Six → List ℕ → Interval → Type 0
-QueriedEnds t vs i = First (asking (size_of t) (others_of t) vs (test bad_table (i ≢ NoInterval BadTable) ∷ [])) (interval_code i)
+QueriedEnds t vs i = First (asking (size_of t) (others_of t) vs (test bad_table (i ≢ Err BadTable) ∷ [])) (interval_code i)
 
 -- "2 for lists is last": the list has room for the ranges that were found, where k of them take `need k` entries
 abbrev pub RangesAsked : Six → List ℕ → Answered → (need : ℕ → ℕ) → (room code : ℕ) → Type 0

@@ -2,7 +2,7 @@
 -- the simple path in order. Cut at any vertex w on it, that reading is the one to w followed by the one from w without its first number. From v to u
 -- the reading is reversed. There are at most 2·floor(log2 n)+1 ranges. lca(r,u,v) is the one vertex on all three paths between r, u and v, in every
 -- order of the three."
-use Rattle.std.specs.Prelude.{ℕ, ◌+◌, ◌*◌, ◌≤◌, ◌<◌, ◌^◌, ◌≡◌, List, ◌∷◌, ◌++◌, map, reverse, length, drop}
+use Rattle.std.specs.Prelude.{ℕ, ◌+◌, ◌*◌, ◌≤◌, ◌<◌, ◌^◌, ◌≡◌, List, ◌∷◌, ◌++◌, map, reverse, length, drop, Ok}
 use Rattle.sums.specs.Sum.{at}
 use Rattle.paths.specs.Lists.{front}
 use Rattle.paths.specs.Walk.{Stands, Simple}
@@ -13,18 +13,16 @@ use Rattle.tables.specs.Tables.{Six}
 use Rattle.hld.specs.Build.{Builds}
 use Rattle.climb.specs.Asked.{size_of}
 use Rattle.queries.specs.Queries.{lca}
-use Rattle.answers.specs.declared.answer.Answer.TheVariants.{Is}
 use Rattle.ranges.specs.Flat.{stride, flat_front}
 use Rattle.ranges.specs.Calls.{listed, ranges_of, ListedAs}
 use Rattle.ranges.specs.Readings.{reading}
 use Rattle.ranges.specs.declared.kinds.PathRange.{PathRange}
 use Rattle.ranges.specs.declared.kinds.Kind.{Kind}
 use Rattle.ranges.specs.declared.kinds.Kind.TheVariants.{Vertices}
-use Rattle.answers.specs.declared.answer.Listed.{Listed}
-use Rattle.answers.specs.declared.answer.Listed.TheVariants.{Count}
 use Rattle.records.specs.Records.{RecordedAs}
 use Rattle.demands.specs.Numbers.{OnPath}
 use Rattle.demands.specs.Answers.{in_rattle, RoomAnswer}
+use Rattle.answers.specs.Answers.{Listed}
 
 -- l are the vertex ranges from u to v
 abbrev pub Ranges : Six → ℕ → ℕ → List PathRange → Type 0
@@ -38,12 +36,12 @@ pub record OnAllThree (n : ℕ) (A : ℕ → List ℕ) (r u v m : ℕ) : Type 0 
 
 -- "in every order of the three"
 pub record InEveryOrder (t : Six) (r u v m : ℕ) : Type 0 where
-  pub r_u_v : lca t r u v ≡ Is m
-  pub r_v_u : lca t r v u ≡ Is m
-  pub u_r_v : lca t u r v ≡ Is m
-  pub u_v_r : lca t u v r ≡ Is m
-  pub v_r_u : lca t v r u ≡ Is m
-  pub v_u_r : lca t v u r ≡ Is m
+  pub r_u_v : lca t r u v ≡ Ok m
+  pub r_v_u : lca t r v u ≡ Ok m
+  pub u_r_v : lca t u r v ≡ Ok m
+  pub u_v_r : lca t u v r ≡ Ok m
+  pub v_r_u : lca t v r u ≡ Ok m
+  pub v_u_r : lca t v u r ≡ Ok m
 
 -- what is asked of the tables t of the tree of n vertices with the lists A
 pub record Routes (n : ℕ) (A : ℕ → List ℕ) (t : Six) : Type 0 where
@@ -63,12 +61,12 @@ pub record Routes (n : ℕ) (A : ℕ → List ℕ) (t : Six) : Type 0 where
   pub listed_whole :
       (kind : Kind) {u v : ℕ} → u < n → v < n → {lent left : List ℕ} {r : Listed} → ListedAs (ranges_of kind t u v) lent left r
       → stride * (2 * log2 n + 1) ≤ length lent
-      → (l : List PathRange) × (ranges_of kind t u v ≡ listed l) × (r ≡ Count (length l)) × (left ≡ flat_front l lent)
+      → (l : List PathRange) × (ranges_of kind t u v ≡ listed l) × (r ≡ Ok (length l)) × (left ≡ flat_front l lent)
   -- and so with records, one to a range
   pub recorded_whole :
       (kind : Kind) {u v : ℕ} → u < n → v < n → {lent left : List PathRange} {r : Listed} → RecordedAs (ranges_of kind t u v) lent left r
       → 2 * log2 n + 1 ≤ length lent
-      → (l : List PathRange) × (ranges_of kind t u v ≡ listed l) × (r ≡ Count (length l)) × (left ≡ front l lent)
+      → (l : List PathRange) × (ranges_of kind t u v ≡ listed l) × (r ≡ Ok (length l)) × (left ≡ front l lent)
   -- "lca(r,u,v) is the one vertex on all three paths between r, u and v, in every order of the three."
   pub lca :
       {r u v : ℕ} → r < n → u < n → v < n

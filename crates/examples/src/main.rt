@@ -14,8 +14,10 @@
 mod run;
 mod shapes;
 
-use casetext::find;
+use casetext::{is_remark, print_malformed};
+use run::run_case;
 use sample::{MAX_SAMPLE, read_sample};
+use shapes::Room;
 use std::io;
 use std::io::Print;
 
@@ -26,27 +28,29 @@ const MAX_ENTRIES: usize = 65_536;
 
 const MAX_WORK: usize = 327_680;
 
-// Runs the cases, all in the same room.
-fn run_all(
-    rt: &impl Print,
-    text: &[u8],
-    offsets: &mut [u32],
-    targets: &mut [u32],
-    work: &mut [u32],
-) -> io::Result<()> {
-    let mut at: usize = 0;
-    while at < text.len() {
-        run::run_line(rt, text, at, offsets, targets, work)?;
-        at = find(text, at, b'\n') + 1;
+// Runs the case of each line, all in the same room.
+fn run_all(rt: &impl Print, text: &[u8]) -> io::Result<()> {
+    let mut offsets = [0u32; MAX_POINTS];
+    let mut targets = [0u32; MAX_ENTRIES];
+    let mut work = [0u32; MAX_WORK];
+    for line in text.split(|byte| *byte == b'\n') {
+        if is_remark(line) {
+            continue;
+        }
+        let room = Room {
+            offsets: &mut offsets,
+            targets: &mut targets,
+        };
+        match run_case(line, room, &mut work) {
+            Some(outcome) => outcome.print(rt)?,
+            None => print_malformed(rt, line)?,
+        }
     }
     Ok(())
 }
 
 fn main(rt: HostRuntime) -> io::Result<()> {
     let mut buffer = [0u8; MAX_SAMPLE];
-    let mut offsets = [0u32; MAX_POINTS];
-    let mut targets = [0u32; MAX_ENTRIES];
-    let mut work = [0u32; MAX_WORK];
     let count = read_sample(&mut rt.stdin(), &mut buffer)?;
-    run_all(&rt, &buffer[..count], &mut offsets, &mut targets, &mut work)
+    run_all(&rt, &buffer[..count])
 }

@@ -1,136 +1,87 @@
 // The graph of a case, as its line gives it or made by its shape.
-use casetext::forms::form;
-use casetext::numbers::{numbers, words};
-use std::num::wrapping_add_u32;
+use casetext::cursor::Cursor;
+use graph::lists::Graph;
 
-// How many offsets and targets a graph has, and the position behind it in the text, which is NOWHERE where the text gives none.
+// Where the offsets and targets of a graph have room.
 #[derive(Drop)]
-pub struct Graph {
-    pub points: usize,
-    pub entries: usize,
-    pub next: usize,
-}
-
-// Sets all entries to x.
-pub fn fill(out: &mut [u32], x: u32) {
-    let mut i: usize = 0;
-    while i < out.len() {
-        out[i] = x;
-        i += 1;
-    }
+pub struct Room<'r> {
+    pub offsets: &'r mut [u32],
+    pub targets: &'r mut [u32],
 }
 
 // The length of the list of v in the path of so many vertices.
 fn path_degree(v: usize, vertices: usize) -> u32 {
     if vertices < 2 {
-        return 0;
+        0
+    } else if v == 0 || v == vertices - 1 {
+        1
+    } else {
+        2
     }
-    if v == 0 {
-        return 1;
-    }
-    if v == vertices - 1 {
-        return 1;
-    }
-    2
 }
 
-// The offsets of the path of so many vertices.
-fn path_offsets(out: &mut [u32], vertices: usize) {
+// Writes the offsets of the path of so many vertices.
+fn path_offsets(offsets: &mut [u32], vertices: usize) {
     let mut end: u32 = 0;
-    let mut v: usize = 0;
-    while v < out.len() {
-        out[v] = end;
-        end = wrapping_add_u32(end, path_degree(v, vertices));
-        v += 1;
+    for (v, offset) in offsets.iter_mut().enumerate() {
+        *offset = end;
+        end = end.saturating_add(path_degree(v, vertices));
     }
 }
 
-// The targets of a path: 1; 0, 2; 1, 3; and so on.
-fn path_targets(out: &mut [u32]) {
+// Writes the targets of a path: 1; 0, 2; 1, 3; and so on.
+fn path_targets(targets: &mut [u32]) {
     let mut next: u32 = 1;
     let mut before: u32 = 0;
-    let mut e: usize = 0;
-    while e < out.len() {
-        out[e] = next;
-        let last = next;
-        next = before;
-        before = wrapping_add_u32(last, 1);
-        e += 1;
+    for target in targets {
+        *target = next;
+        (next, before) = (before, next.saturating_add(1));
     }
 }
 
-// Offsets by which the first vertex has a list of the first `end` targets, and no other has any.
+// Writes offsets by which the first vertex has a list of the first `end` targets, and no other has any.
 fn one_list(offsets: &mut [u32], end: u32) {
-    fill(offsets, end);
-    if 0 < offsets.len() {
-        offsets[0] = 0;
+    offsets.fill(end);
+    if let Some(first) = offsets.first_mut() {
+        *first = 0;
     }
 }
 
-// The graph whose offsets and targets stand at this position.
-fn given(text: &[u8], at: usize, offsets: &mut [u32], targets: &mut [u32]) -> Graph {
-    let first = numbers(text, at, offsets);
-    let second = numbers(text, words(text, first.next, b" targets"), targets);
-    Graph {
-        points: first.count,
-        entries: second.count,
-        next: second.next,
-    }
+// Reads a graph whose offsets and targets stand next.
+fn given<'r>(cursor: &mut Cursor, room: Room<'r>) -> Option<Graph<'r>> {
+    let offsets = cursor.numbers(room.offsets);
+    cursor.words(b" targets")?;
+    let targets = cursor.numbers(room.targets);
+    Some(Graph { offsets, targets })
 }
 
-// The path of so many vertices.
-fn path(
-    vertices: u32,
-    entries: u32,
-    next: usize,
-    offsets: &mut [u32],
-    targets: &mut [u32],
-) -> Graph {
-    path_offsets(offsets, vertices as usize);
+// Makes the path of so many vertices.
+fn path<'r>(vertices: usize, entries: usize, room: Room<'r>) -> Option<Graph<'r>> {
+    let offsets = room.offsets.get_mut(..=vertices)?;
+    let targets = room.targets.get_mut(..entries)?;
+    path_offsets(offsets, vertices);
     path_targets(targets);
-    Graph {
-        points: vertices as usize + 1,
-        entries: entries as usize,
-        next,
-    }
+    Some(Graph { offsets, targets })
 }
 
-// The graph of so many vertices with one list.
-fn list(
-    vertices: u32,
-    target: u32,
-    times: u32,
-    next: usize,
-    offsets: &mut [u32],
-    targets: &mut [u32],
-) -> Graph {
+// Makes the graph of so many vertices with one list, which has the target so many times.
+fn list<'r>(vertices: usize, target: u32, times: u32, room: Room<'r>) -> Option<Graph<'r>> {
+    let offsets = room.offsets.get_mut(..=vertices)?;
+    let targets = room.targets.get_mut(..times as usize)?;
     one_list(offsets, times);
-    fill(targets, target);
-    Graph {
-        points: vertices as usize + 1,
-        entries: times as usize,
-        next,
-    }
+    targets.fill(target);
+    Some(Graph { offsets, targets })
 }
 
-// The graph that stands at this position.
-pub fn graph_at(text: &[u8], at: usize, offsets: &mut [u32], targets: &mut [u32]) -> Graph {
-    let found = form(
-        text,
-        at,
-        b"offsets|path # targets #|vertices # list # times #",
-    );
-    let which = found.which;
-    match which {
-        0 => given(text, found.next, offsets, targets),
-        1 => path(found.first, found.second, found.next, offsets, targets),
-        _ => list(
-            found.first,
-            found.second,
-            found.third,
-            found.next,
-            offsets,
-            targets,
-        ),
+// Reads or makes the graph that stands next. None where none does, or the room is too small for it.
+pub fn read_graph<'r>(cursor: &mut Cursor, room: Room<'r>) -> Option<Graph<'r>> {
+    if cursor.words(b"offsets").is_some() {
+        return given(cursor, room);
     }
+    if let Some(numbers) = cursor.form::<2>(b"path # targets #") {
+        let [vertices, entries] = numbers;
+        return path(vertices as usize, entries as usize, room);
+    }
+    let [vertices, target, times] = cursor.form::<3>(b"vertices # list # times #")?;
+    list(vertices as usize, target, times, room)
 }

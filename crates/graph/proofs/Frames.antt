@@ -1,14 +1,13 @@
 -- Laws of `Only`: what a function may have written.
 use Prim.Native.Nat.{ℕ, ◌+◌, ◌-◌, ◌≤◌, ◌<◌}
 use native.Mathlib.Omega.{arith}
-use mathlib.Core.Path.{◌≡◌, refl, sym, ap, ◌∙◌, subst}
+use mathlib.Core.Path.{◌≡◌, refl, sym, ap, ◌∙◌}
 use mathlib.Core.List.{List}
 use lib.ListN.{length, set, length-set, drop, replicate, length-append, length-replicate, length-drop, get_or-replicate, get_or-append}
 use lib.Seq.{get_or-set_other, get_or-set_same, ext_get_or, get_or-append-add, get_or-drop}
 use mathlib.Core.Logic.{◌≢◌, by_cases}
 use native.Mathlib.Decide.{dec_lt}
 use Rattle.sums.specs.Sum.{at}
-use Rattle.sums.proofs.Sums.{equal_or_not}
 use Rattle.graph.specs.Work.{Only, Zeroed}
 use Rattle.graph.specs.Validation.{cleared}
 
@@ -46,18 +45,6 @@ at_set_same w i x h = get_or-set_same w i x 0 h
 
 pub at_set_other : (w : List ℕ) (i x j : ℕ) → j ≢ i → at (set w i x) j ≡ at w j
 at_set_other w i x j h = get_or-set_other w i j x 0 h
-
-pub zeroed_none : (a : ℕ) (w : List ℕ) → Zeroed a a w w
-zeroed_none a w = record { only = only_refl a a w; zero = λ i h k. absurd (omega arith) }
-
--- one entry more
-pub zeroed_more : {a i : ℕ} {w w' : List ℕ} → i < length w' → a ≤ i → Zeroed a i w w' → Zeroed a (i + 1) w (set w' i 0)
-zeroed_more {a} {i} {w} {w'} room ha z =
-    record {
-      only = only_trans (only_wider (omega arith) (omega arith) z.only) (only_set w' i 0 ha (omega arith));
-      zero = λ j h k. equal_or_not j i (λ e. subst (λ (x : ℕ). at (set w' i 0) x ≡ 0) (sym e) (at_set_same w' i 0 room))
-          (λ ne. at_set_other w' i 0 j ne ∙ z.zero j h (omega arith));
-    }
 
 -- whatever stood in the first k entries, zeroing them leaves the others of the work before
 pub zeroed-cleared : {k : ℕ} {w w₁ w₂ : List ℕ} → k ≤ length w → Only 0 k w w₁ → Zeroed 0 k w₁ w₂ → w₂ ≡ cleared k w

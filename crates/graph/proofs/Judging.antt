@@ -1,17 +1,20 @@
 -- Laws of judging: a test's answer, and the first test that is not passed.
-use Prim.Native.Nat.{ℕ, ◌+◌, ◌≤◌, ◌<◌}
+use Prim.Native.Nat.{ℕ, ◌≤◌}
 use mathlib.Core.Path.{◌≡◌, refl, sym, ◌∙◌}
 use native.Mathlib.Omega.{arith}
-use mathlib.Core.Logic.{inl, inr, by_cases}
+use mathlib.Core.Logic.{inl, inr, by_cases, ◌≢◌}
 use native.Mathlib.Decide.{dec_le}
 use mathlib.Core.Bool.{Bool, true, false, not, true≢false}
 use mathlib.Core.List.{List, [], ◌∷◌}
 use lib.Dec.{leb, eqb}
-use borrow.Author.Count.{below_more}
 use borrow.Author.Tests.{leb-true, leb-false, eqb-true, eqb-false, not-true, not-false}
 use lib.ListN.{length}
 use Rattle.graph.specs.Judgement.{Test, First, Decides}
 use Rattle.answers.specs.Limits.{max_vertices, max_targets}
+use Rattle.answers.specs.Codes.{done}
+use Rattle.answers.specs.Answers.{refusal_code}
+use Rattle.answers.specs.declared.answer.Refusal.{Refusal}
+use Rattle.answers.specs.declared.answer.Refusal.TheVariants.{BadSize, NoRoom, BadOffsets, BadVertex, BadRoot, NotSymmetric, Disconnected, HasCycle, BadTable, TooFar}
 use Rattle.graph.specs.Lent.{vertices}
 use Rattle.graph.specs.Validation.{Sized, Leaves}
 
@@ -36,21 +39,25 @@ decides_true {P} {r} d p = sure r refl
     sure true e = e
     sure false e = absurd (d.wrong e p)
 
--- what holds of the numbers below k and of k itself: `held` decides the one, and r that it was so and Q, which says the other
-pub decides_more : (P : ℕ → Type 0) (k : ℕ) {held r : Bool} {Q : Type 0}
-    → Decides ((j : ℕ) → j < k → P j) held → Decides ((held ≡ true) × Q) r → (Q → P k) → (P k → Q) → Decides ((j : ℕ) → j < k + 1 → P j) r
-decides_more P k {held} {r} {Q} before now to back =
-    record {
-      right = λ e. below_more P k (before.right (now.right e).0) (to (now.right e).1);
-      wrong = λ e all. now.wrong e (decides_true before (λ j h. all j (omega arith)), back (all k (omega arith)));
-    }
-
 -- what a test that is asked the other way round says
 pub passed : {P : Type 0} {r : Bool} → Decides P r → not r ≡ false → P
 passed {P} {r} d e = d.right (not-false r e)
 
 pub failed : {P : Type 0} {r : Bool} → Decides P r → not r ≡ true → P → ⊥
 failed {P} {r} d e = d.wrong (not-true r e)
+
+-- no refusal has the code of what is answered
+pub refused_code : (r : Refusal) → refusal_code r ≢ done
+refused_code BadSize e = cc
+refused_code NoRoom e = cc
+refused_code BadOffsets e = cc
+refused_code BadVertex e = cc
+refused_code BadRoot e = cc
+refused_code NotSymmetric e = cc
+refused_code Disconnected e = cc
+refused_code HasCycle e = cc
+refused_code BadTable e = cc
+refused_code TooFar e = cc
 
 -- the first test not passed gives one code
 pub first_one : (ts : List Test) {c d : ℕ} → First ts c → First ts d → c ≡ d

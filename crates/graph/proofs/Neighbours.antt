@@ -8,6 +8,10 @@ use lib.Dec.{ltb, leb}
 use lib.ListN.{length, take, drop}
 use lib.Seq.{slice, take-nil, length-slice, get_or-drop, get_or-take}
 use borrow.Author.Tests.{lt-ltb, le-ltb, le-leb, lt-leb}
+use mathlib.Core.Logic.{◌⊎◌, inl, inr}
+use Rattle.std.specs.Prelude.{Option, Some, None, MatchOption, slice_range}
+use Rattle.std.specs.Option.{unwrap_or}
+use Rattle.std.specs.Borrow.{Bor}
 use Rattle.sums.specs.Sum.{at, sum}
 use Rattle.paths.specs.Walk.{Below}
 use Rattle.graph.specs.Lent.{vertices, or_empty, list_of, Offsets, Targets}
@@ -57,6 +61,16 @@ module _ (os ts : List ℕ) (u : ℕ) where
       or_empty_true _ (lt-ltb (u + 1) (length os) h)
       ∙ or_empty_true _ (le-leb (at os u) (at os (u + 1)) r)
       ∙ or_empty_true _ (le-leb (at os (u + 1)) (length ts) k)
+
+  -- what the code gets of the targets
+  pub got_list : (part : Option (Bor (List ℕ))) (none : Bor (List ℕ)) → none.now ≡ [] → u + 1 < length os
+      → MatchOption part ((at os (u + 1) < at os u) ⊎ (length ts < at os (u + 1)))
+      (λ l. (at os u ≤ at os (u + 1)) × (at os (u + 1) ≤ length ts) × (l.now ≡ slice_range ts (at os u) (at os (u + 1)))
+      × (length l.now + at os u ≡ at os (u + 1)))
+      → (unwrap_or part none).now ≡ list_of os ts u
+  got_list None none e h (inl f) = e ∙ sym (list_falls f)
+  got_list None none e h (inr f) = e ∙ sym (list-above f)
+  got_list (Some l) none e h (rise, fit, is, long) = is ∙ part_slice (at os u) (at os (u + 1)) ts rise ∙ sym (list-slice h rise fit)
 
 -- the lists of a graph whose offsets are sound
 module _ (os ts : List ℕ) (O : Offsets os ts) where

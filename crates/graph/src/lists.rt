@@ -1,61 +1,16 @@
-// The list of a vertex, and the tests of sizes, offsets and targets.
-ghost use Rattle.std.specs.Prelude.{◌≡◌, true, [], ◌≤◌};
+// The lent graph: the list of a vertex, and the tests of sizes, offsets and targets.
+ghost use Rattle.std.specs.Prelude.{◌≡◌, true, ◌≤◌};
 ghost use Rattle.graph.specs.Judgement.{Decides};
 ghost use Rattle.graph.specs.Lent.{vertices as vertices_of, list_of, Offsets, Targets};
-ghost use Rattle.graph.specs.Validation.{Sized};
+ghost use Rattle.graph.specs.Validation.{Sized, room_of};
 
 use answers::limits::{MAX_TARGETS, MAX_VERTICES};
 
-// The empty part of a slice.
-fn none(targets: &[u32]) -> &[u32]
-    ensures { result.now ≡ [] }
-{
-    &targets[..0]
-}
-
-// The number of vertices that these offsets speak of, 0 where there are none.
-pub fn vertices(offsets: &[u32]) -> usize
-    ensures { result ≡ vertices_of offsets.now }
-{
-    if offsets.len() == 0 {
-        return 0;
-    }
-    offsets.len() - 1
-}
-
-// The list of the vertex u as a part of the caller's targets: the targets from offset u up to offset u + 1, and empty where u or its
-// offsets are out of range or fall.
-pub fn neighbours<'a>(offsets: &[u32], targets: &'a [u32], u: usize) -> &'a [u32]
-    ensures { result.now ≡ list_of offsets.now targets.now u }
-{
-    if offsets.len() <= u {
-        return none(targets);
-    }
-    if offsets.len() <= u + 1 {
-        return none(targets);
-    }
-    let from = offsets[u] as usize;
-    let to = offsets[u + 1] as usize;
-    if to < from {
-        return none(targets);
-    }
-    if targets.len() < to {
-        return none(targets);
-    }
-    &targets[from..to]
-}
-
-// Whether the numbers of vertices and of targets are within their limits.
-pub fn sized(offsets: &[u32], targets: &[u32]) -> bool
-    ensures { Decides (Sized offsets.now targets.now) result }
-{
-    if offsets.len() < 2 {
-        return false;
-    }
-    if MAX_VERTICES < offsets.len() - 1 {
-        return false;
-    }
-    targets.len() <= MAX_TARGETS
+// A graph as two lent slices, of any lengths and with any entries.
+#[derive(Clone, Copy)]
+pub struct Graph<'a> {
+    pub offsets: &'a [u32],
+    pub targets: &'a [u32],
 }
 
 // Whether what held so far still does: that a is at most b. A loop that goes on to its end whatever it finds lets the compiler look at several entries at
@@ -69,38 +24,74 @@ fn still(held: bool, a: usize, b: usize) -> bool
     held
 }
 
-// Whether the first offset is 0, no offset falls and the last is the number of targets.
-pub fn sound_offsets(offsets: &[u32], targets: &[u32]) -> bool
-    requires { 1 ≤ vertices_of offsets.now }
-    ensures { Decides (Offsets offsets.now targets.now) result }
-{
-    let n = offsets.len() - 1;
-    if offsets[0] != 0 {
-        return false;
+impl<'a> Graph<'a> {
+    // The number of vertices that the offsets speak of, 0 where there are none.
+    pub fn vertices(&self) -> usize
+        ensures { result ≡ vertices_of self.now.offsets.now }
+    {
+        self.offsets.len().saturating_sub(1)
     }
-    let mut rises = true;
-    let mut u: usize = 0;
-    while u < n {
-        rises = still(rises, offsets[u] as usize, offsets[u + 1] as usize);
-        u += 1;
-    }
-    if !rises {
-        return false;
-    }
-    offsets[n] as usize == targets.len()
-}
 
-// Whether every target is a vertex.
-pub fn sound_targets(offsets: &[u32], targets: &[u32]) -> bool
-    requires { 1 ≤ vertices_of offsets.now }
-    ensures { Decides (Targets offsets.now targets.now) result }
-{
-    let n = offsets.len() - 1;
-    let mut below = true;
-    let mut e: usize = 0;
-    while e < targets.len() {
-        below = still(below, targets[e] as usize, n - 1);
-        e += 1;
+    // The list of the vertex u as a part of the caller's targets: the targets from offset u up to offset u + 1, and empty where u or its
+    // offsets are out of range or fall.
+    pub fn neighbours(&self, u: usize) -> &'a [u32]
+        ensures { result.now ≡ list_of self.now.offsets.now self.now.targets.now u }
+    {
+        let none = &self.targets[..0];
+        if self.vertices() <= u {
+            return none;
+        }
+        let from = self.offsets[u] as usize;
+        let to = self.offsets[u + 1] as usize;
+        self.targets.get(from..to).unwrap_or(none)
     }
-    below
+
+    // Whether the numbers of vertices and of targets are within their limits.
+    pub fn sized(&self) -> bool
+        ensures { Decides (Sized self.now.offsets.now self.now.targets.now) result }
+    {
+        let n = self.vertices();
+        if n < 1 || MAX_VERTICES < n {
+            return false;
+        }
+        self.targets.len() <= MAX_TARGETS
+    }
+
+    // Whether the first offset is 0, no offset falls and the last is the number of targets.
+    pub fn sound_offsets(&self) -> bool
+        requires { 1 ≤ vertices_of self.now.offsets.now }
+        ensures { Decides (Offsets self.now.offsets.now self.now.targets.now) result }
+    {
+        let n = self.vertices();
+        let mut rises = true;
+        for u in 0..n {
+            rises = still(
+                rises,
+                self.offsets[u] as usize,
+                self.offsets[u + 1] as usize,
+            );
+        }
+        rises && self.offsets[0] == 0 && self.offsets[n] as usize == self.targets.len()
+    }
+
+    // Whether every target is a vertex.
+    pub fn sound_targets(&self) -> bool
+        requires { 1 ≤ vertices_of self.now.offsets.now }
+        ensures { Decides (Targets self.now.offsets.now self.now.targets.now) result }
+    {
+        let last = self.vertices() - 1;
+        let mut below = true;
+        for target in self.targets {
+            below = still(below, *target as usize, last);
+        }
+        below
+    }
+
+    // How many entries of work a call on this graph uses: 8n + E.
+    pub fn work_room(&self) -> usize
+        requires { Sized self.now.offsets.now self.now.targets.now }
+        ensures { result ≡ room_of self.now.offsets.now self.now.targets.now }
+    {
+        8 * self.vertices() + self.targets.len()
+    }
 }

@@ -7,9 +7,5 @@ pub fn zero(work: &mut [u32], a: usize, e: usize)
     requires { (a ≤ e) × (e ≤ length work.old) }
     ensures { Zeroed a e work.old work.new }
 {
-    let mut i = a;
-    while i < e {
-        work[i] = 0;
-        i += 1;
-    }
+    work[a..e].fill(0);
 }

@@ -19,7 +19,7 @@ use Rattle.tables.specs.Tables.{Six, Long, TablesOf}
 use Rattle.scatter.specs.Scatter.{ScatterAsks, Filled}
 use Rattle.hld.proofs.Tabled.{Holds, table_span, table_arrangement}
 use Rattle.hld.proofs.Ranks.{tops-below, ranks_injective, ranks-below}
-use Rattle.scatter.proofs.Filling.{parent_first, parent_later}
+use Rattle.scatter.proofs.Above.{parent_first, parent_later}
 
 -- weights are told by the parents of the positions below n alone
 pub weighed_same : {n : ℕ} {p p' s h : ℕ → ℕ} → ((j : ℕ) → 0 < j → j < n → p j ≡ p' j) → Weighed n p s h → Weighed n p' s h

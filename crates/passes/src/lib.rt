@@ -28,12 +28,8 @@ fn start_weights(n: usize, work: &mut [u32])
     requires { StartAsks n work.old }
     ensures { StartAnswers n work.old work.new }
 {
-    let mut j: usize = 0;
-    while j < n {
-        work[SIZE * n + j] = 1;
-        work[HEAVY * n + j] = 0;
-        j += 1;
-    }
+    work[SIZE * n..HEAVY * n].fill(1);
+    work[HEAVY * n..ID * n].fill(0);
 }
 
 // The heavier of the heavy child so far, at position best, and position j, which stands before it in the list: of equals j.
@@ -41,10 +37,7 @@ fn heavier(n: usize, best: usize, j: usize, work: &[u32]) -> usize
     requires { HeavierAsks n best j work.now }
     ensures { Heavier (region 2 n work.now) best j result }
 {
-    if best == 0 {
-        return j;
-    }
-    if work[SIZE * n + j] < work[SIZE * n + best] {
+    if best != 0 && work[SIZE * n + j] < work[SIZE * n + best] {
         return best;
     }
     j
@@ -69,10 +62,8 @@ pub fn weigh(n: usize, work: &mut [u32])
     ensures { WeighAnswers n work.old work.new }
 {
     start_weights(n, work);
-    let mut left = n;
-    while 1 < left {
-        left -= 1;
-        let up = work[UP * n + left] as usize;
-        weigh_one(n, left, up, work);
+    for j in (1..n).rev() {
+        let up = work[UP * n + j] as usize;
+        weigh_one(n, j, up, work);
     }
 }

@@ -1,4 +1,5 @@
 -- `kth_ancestor` answers the vertex k steps above, and is refused 10 where there is none.
+use Rattle.std.specs.Prelude.{Ok, Err}
 use Prim.Native.Nat.{ℕ, zero, suc, ◌+◌, ◌-◌, ◌≤◌, ◌<◌}
 use native.Mathlib.Omega.{arith}
 use native.Mathlib.Decide.{dec_le}
@@ -22,14 +23,14 @@ use Rattle.answers.specs.Choice.{pick}
 use Rattle.climb.specs.Sound.{parent_in, depth_in, head_in, id_in, place_of}
 use Rattle.queries.specs.Queries.{entry_at, ancestor_from, ancestor_in, kth_ancestor}
 use Rattle.climb.specs.declared.places.Place.{Place}
-use Rattle.answers.specs.declared.answer.Answer.{Answer}
-use Rattle.answers.specs.declared.answer.Answer.TheVariants.{Is, TooFar, Refused}
 use Rattle.pathlaws.specs.Given.{Given, path_in, lights_in}
 use Rattle.pathlaws.proofs.Standing.{up_below, up_parent, top_parent, stand_vertex, answered}
+use Rattle.answers.specs.Answers.{Answer}
+use Rattle.answers.specs.declared.answer.Refusal.TheVariants.{TooFar}
 
 -- the ancestor k steps above v, or that there is none
 abbrev found : Six → (v k : ℕ) → Answer
-found t v k = pick (leb k (depth_in t v)) (Is (climb (at t.parent) k v)) TooFar
+found t v k = pick (leb k (depth_in t v)) (Ok (climb (at t.parent) k v)) (Err TooFar)
 
 -- as many steps as the chain has above the place lead to an entry of the order
 ancestor_on : (chains n : ℕ) (t : Six) (p : Place) (k : ℕ) → k ≤ p.depth - p.top → ancestor_from chains n t p k ≡ entry_at n t (p.id - k) (p.depth - k)
@@ -39,7 +40,7 @@ ancestor_on (suc chains) n t p k h = rw (le-leb k (p.depth - p.top) h)
 
 -- more are too many where the chain has no parent
 ancestor_none :
-    (chains n : ℕ) (t : Six) (p : Place) (k : ℕ) → p.depth - p.top < k → eqb p.up no_parent ≡ true → ancestor_from chains n t p k ≡ TooFar
+    (chains n : ℕ) (t : Six) (p : Place) (k : ℕ) → p.depth - p.top < k → eqb p.up no_parent ≡ true → ancestor_from chains n t p k ≡ Err TooFar
 unfolding ancestor_from
 ancestor_none zero n t p k h e = rw (lt-leb k (p.depth - p.top) h, e)
 ancestor_none (suc chains) n t p k h e = rw (lt-leb k (p.depth - p.top) h, e)
@@ -56,7 +57,7 @@ module _ {n root : ℕ} {A : ℕ → List ℕ} {t : Six} {kids : ℕ → List �
 
   -- on its chain, the order has the ancestor where the number is less by k
   entry-climb :
-      (k : ℕ) {v : ℕ} → v < n → k + depth_in t (head_in t v) ≤ depth_in t v → entry_at n t (id_in t v - k) (depth_in t v - k) ≡ Is (climb (at t.parent) k v)
+      (k : ℕ) {v : ℕ} → v < n → k + depth_in t (head_in t v) ≤ depth_in t v → entry_at n t (id_in t v - k) (depth_in t v - k) ≡ Ok (climb (at t.parent) k v)
   entry-climb k {v} hv h =
       let x : ℕ = climb (at t.parent) k v in
       let d = climb_depth G.tables.numbering k hv h in
@@ -130,18 +131,18 @@ module _ {n root : ℕ} {A : ℕ → List ℕ} {t : Six} {kids : ℕ → List �
       ]
 
   -- the search from a vertex finds the ancestor k steps above it
-  pub ancestor_found : (k : ℕ) {v : ℕ} → v < n → k ≤ depth_in t v → ancestor_in n t v k ≡ Is (climb (at t.parent) k v)
+  pub ancestor_found : (k : ℕ) {v : ℕ} → v < n → k ≤ depth_in t v → ancestor_in n t v k ≡ Ok (climb (at t.parent) k v)
   ancestor_found k {v} hv h =
       rw (stand_vertex G hv, ancestor_in, searched (log2 n) k hv (lights_log G.tables.numbering hv), le-leb k (depth_in t v) h)
 
   -- or that there is none
-  pub ancestor_missing : (k : ℕ) {v : ℕ} → v < n → depth_in t v < k → ancestor_in n t v k ≡ TooFar
+  pub ancestor_missing : (k : ℕ) {v : ℕ} → v < n → depth_in t v < k → ancestor_in n t v k ≡ Err TooFar
   ancestor_missing k {v} hv h =
       rw (stand_vertex G hv, ancestor_in, searched (log2 n) k hv (lights_log G.tables.numbering hv), lt-leb k (depth_in t v) h)
 
   -- `kth_ancestor` answers the vertex k steps above v
-  pub kth_ancestor_lem : (k : ℕ) {v : ℕ} → v < n → k ≤ depth_in t v → kth_ancestor t v k ≡ Is (climb (at t.parent) k v)
-  kth_ancestor_lem k {v} hv h = answered G (v ∷ []) Refused (λ m. ancestor_in m t v k) (hv, tt) ∙ ancestor_found k hv h
+  pub kth_ancestor_lem : (k : ℕ) {v : ℕ} → v < n → k ≤ depth_in t v → kth_ancestor t v k ≡ Ok (climb (at t.parent) k v)
+  kth_ancestor_lem k {v} hv h = answered G (v ∷ []) Err (λ m. ancestor_in m t v k) (hv, tt) ∙ ancestor_found k hv h
 
   -- the path to the root has as many steps as the vertex is deep
   pub depth_path : {v : ℕ} → v < n → length (path_in t v root) ≡ depth_in t v
@@ -151,12 +152,12 @@ module _ {n root : ℕ} {A : ℕ → List ℕ} {t : Six} {kids : ℕ → List �
       climb-length G.tables.spans.rooted a.0 root hv a.1 a.2 ∙ omega arith
 
   -- the answer is the k-th vertex on that path
-  pub kth_on_path : (k : ℕ) {v : ℕ} → v < n → k ≤ depth_in t v → kth_ancestor t v k ≡ Is (get_or (v ∷ path_in t v root) k 0)
+  pub kth_on_path : (k : ℕ) {v : ℕ} → v < n → k ≤ depth_in t v → kth_ancestor t v k ≡ Ok (get_or (v ∷ path_in t v root) k 0)
   kth_on_path k {v} hv h =
       let z = G.tables.spans.rooted.root_top in
       let a = root_anc G.tables.spans.rooted hv in
-      kth_ancestor_lem k hv h ∙ ap Is (sym (climb_entry G.tables.spans.rooted a.0 k root hv a.1 a.2 (omega arith)))
+      kth_ancestor_lem k hv h ∙ ap Ok (sym (climb_entry G.tables.spans.rooted a.0 k root hv a.1 a.2 (omega arith)))
 
   -- `kth_ancestor` is refused where there is no vertex k steps above v
-  pub kth_too_far : (k : ℕ) {v : ℕ} → v < n → depth_in t v < k → kth_ancestor t v k ≡ TooFar
-  kth_too_far k {v} hv h = answered G (v ∷ []) Refused (λ m. ancestor_in m t v k) (hv, tt) ∙ ancestor_missing k hv h
+  pub kth_too_far : (k : ℕ) {v : ℕ} → v < n → depth_in t v < k → kth_ancestor t v k ≡ Err TooFar
+  kth_too_far k {v} hv h = answered G (v ∷ []) Err (λ m. ancestor_in m t v k) (hv, tt) ∙ ancestor_missing k hv h

@@ -1,4 +1,5 @@
 -- `lca` answers the one vertex common to the three paths, whichever of the three vertices is called the root.
+use Rattle.std.specs.Prelude.{Ok, Err}
 use Prim.Native.Nat.{ℕ, ◌≤◌, ◌<◌}
 use native.Mathlib.Omega.{arith}
 use native.Mathlib.Decide.{dec_le}
@@ -13,7 +14,6 @@ use Rattle.tables.specs.Tables.{Six}
 use Rattle.climb.specs.Sound.{depth_in, place_of}
 use Rattle.queries.specs.Queries.{deeper, lca_in, lca}
 use Rattle.climb.specs.declared.places.Place.{Place}
-use Rattle.answers.specs.declared.answer.Answer.TheVariants.{Is, Refused}
 use Rattle.pathlaws.specs.Given.{Given, top_in}
 use Rattle.pathlaws.proofs.Standing.{answered}
 use Rattle.pathlaws.proofs.Meetings.{climb_meets}
@@ -54,21 +54,21 @@ module _ {n root : ℕ} {A : ℕ → List ℕ} {t : Six} {kids : ℕ → List �
   -- `lca` takes the last deepest of the three pairs' ancestors
   lca_deepest :
       {r u v : ℕ} → r < n → u < n → v < n
-      → lca t r u v ≡ Is (deeper (deeper (place_of t (top_in t u v)) (place_of t (top_in t r u))) (place_of t (top_in t r v))).vertex
+      → lca t r u v ≡ Ok (deeper (deeper (place_of t (top_in t u v)) (place_of t (top_in t r u))) (place_of t (top_in t r v))).vertex
   lca_deepest {r} {u} {v} hr hu hv =
       let a = climb_meets G hu hv in
       let b = climb_meets G hr hu in
       let c = climb_meets G hr hv in
-      answered G (r ∷ u ∷ v ∷ []) Refused (λ m. lca_in m t r u v) (hr, (hu, (hv, tt)))
+      answered G (r ∷ u ∷ v ∷ []) Err (λ m. lca_in m t r u v) (hr, (hu, (hv, tt)))
       ∙ rw (a.1, lca_in, b.1, c.1, a.2.ancestor, b.2.ancestor, c.2.ancestor)
 
   -- `lca` answers the vertex common to the three paths
-  pub lca_answer : (m : ℕ) {r u v : ℕ} → r < n → u < n → v < n → Common (at t.parent) (at t.depth) r u v m → lca t r u v ≡ Is m
+  pub lca_answer : (m : ℕ) {r u v : ℕ} → r < n → u < n → v < n → Common (at t.parent) (at t.depth) r u v m → lca t r u v ≡ Ok m
   lca_answer m {r} {u} {v} hr hu hv c =
       let d = common_deepest G.tables.spans.rooted m hr hu hv c in
       let s = common_as_deep G.tables.spans.rooted m hr hu hv c in
       lca_deepest hr hu hv
-      ∙ ap (λ (p : Place). Is p.vertex)
+      ∙ ap (λ (p : Place). Ok p.vertex)
       (deepest_is t m (top_in t u v) (top_in t r u) (top_in t r v)
       (record { no_deeper = d.0; as_deep = s.0 })
       (record { no_deeper = d.1; as_deep = s.1 })
@@ -76,7 +76,7 @@ module _ {n root : ℕ} {A : ℕ → List ℕ} {t : Six} {kids : ℕ → List �
       (common-top G.tables.spans.rooted m hr hu hv c))
 
   -- there is always one
-  pub lca_common : {r u v : ℕ} → r < n → u < n → v < n → (m : ℕ) × (lca t r u v ≡ Is m) × Common (at t.parent) (at t.depth) r u v m
+  pub lca_common : {r u v : ℕ} → r < n → u < n → v < n → (m : ℕ) × (lca t r u v ≡ Ok m) × Common (at t.parent) (at t.depth) r u v m
   lca_common {r} {u} {v} hr hu hv =
       let e = common_exists G.tables.spans.rooted hr hu hv in
       (e.0, lca_answer e.0 hr hu hv e.1, e.1)

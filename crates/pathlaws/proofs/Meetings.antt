@@ -1,4 +1,5 @@
 -- A climb from two vertices of a numbering always ends with both sides on one chain, before either may leave no more chains.
+use Rattle.std.specs.Prelude.{Ok}
 use Prim.Native.Nat.{ℕ, zero, suc, ◌+◌, ◌*◌, ◌≤◌, ◌<◌}
 use native.Mathlib.Omega.{arith}
 use native.Mathlib.Decide.{dec_le, ℕ_discrete}
@@ -17,7 +18,6 @@ use Rattle.tables.specs.Tables.{Six}
 use Rattle.climb.specs.Sound.{parent_in, depth_in, head_in, place_of, On}
 use Rattle.climb.specs.Climbing.{climb_to, ancestor_of}
 use Rattle.climb.specs.declared.places.Climb.{Climb}
-use Rattle.climb.specs.declared.places.Climbed.TheVariants.{Met}
 use Rattle.climb.proofs.Climbs.{leave_chain, climb_from, climb_met, climb_by_u, climb_by_v, climb-from}
 use Rattle.pathlaws.specs.Given.{Given, OnIn, path_in, top_in, lights_in}
 use Rattle.pathlaws.specs.Meeting.{Meeting}
@@ -90,7 +90,7 @@ module _ {n root : ℕ} {A : ℕ → List ℕ} {t : Six} {kids : ℕ → List �
       → a + lights_in t x ≤ log2 n
       → b + lights_in t y ≤ log2 n
       → lights_in t x + lights_in t y < k
-      → (c : Climb) × (climb_from n t (stage t x y a b) ≡ Met c) × Meeting n t x y c
+      → (c : Climb) × (climb_from n t (stage t x y a b) ≡ Ok c) × Meeting n t x y c
   climbs zero x y a b hx hy i j h = absurd (omega arith)
   climbs (suc k) x y a b hx hy i j h = elim (ℕ_discrete (head_in t x) (head_in t y)) [
     | yes e ↦ (
@@ -132,7 +132,7 @@ module _ {n root : ℕ} {A : ℕ → List ℕ} {t : Six} {kids : ℕ → List �
   ]
 
   -- the climb from any two vertices meets
-  pub climb_meets : {u v : ℕ} → u < n → v < n → (c : Climb) × (climb_to n t u v ≡ Met c) × Meeting n t u v c
+  pub climb_meets : {u v : ℕ} → u < n → v < n → (c : Climb) × (climb_to n t u v ≡ Ok c) × Meeting n t u v c
   climb_meets {u} {v} hu hv =
       let i = lights_log G.tables.numbering hu in
       let j = lights_log G.tables.numbering hv in

@@ -1,4 +1,5 @@
 -- "`lca(r,u,v)` and `subtree_size(r,v)`: as if r were the root": the answers are those of the same tree hung from r.
+use Rattle.std.specs.Prelude.{Ok}
 use Prim.Native.Nat.{ℕ, ◌<◌}
 use mathlib.Core.Path.{◌≡◌, sym, ap, subst, ◌∙◌}
 use mathlib.Core.Logic.Iff
@@ -15,7 +16,6 @@ use Rattle.paths.proofs.Top.{top_left, top_right, top_on}
 use Rattle.numbering.proofs.Sizes.{size-count}
 use Rattle.tables.specs.Tables.{Six, NumberingOf}
 use Rattle.queries.specs.Queries.{lca, subtree_size}
-use Rattle.answers.specs.declared.answer.Answer.TheVariants.{Is}
 use Rattle.pathlaws.specs.Given.{Given, OnIn, through?}
 use Rattle.pathlaws.proofs.Lca.{lca_answer}
 use Rattle.pathlaws.proofs.SubtreeSizes.{through_on, subtree_size_lem}
@@ -33,7 +33,7 @@ module _ {n root : ℕ} {A : ℕ → List ℕ} {t : Six} {kids : ℕ → List �
     anc_on_path x hv = Iff.trans (anc_root S.rooted x hv) (on_same_tree x hv S.rooted.root_below)
 
     -- `lca` answers the deepest common ancestor in the tree hung from r
-    pub lca_re_rooted : {u v : ℕ} → u < n → v < n → lca t r u v ≡ Is (top par dep u v)
+    pub lca_re_rooted : {u v : ℕ} → u < n → v < n → lca t r u v ≡ Ok (top par dep u v)
     lca_re_rooted {u} {v} hu hv =
         let hr = S.rooted.root_below in
         let m : ℕ = top par dep u v in
@@ -46,10 +46,10 @@ module _ {n root : ℕ} {A : ℕ → List ℕ} {t : Six} {kids : ℕ → List �
 
   -- `subtree_size` answers the size that a numbering from r gives
   pub size_re_rooted :
-      {r : ℕ} {s : Six} {heirs : ℕ → List ℕ} {v : ℕ} → NumberingOf n A r s heirs → v < n → subtree_size t r v ≡ Is (at s.size v)
+      {r : ℕ} {s : Six} {heirs : ℕ → List ℕ} {v : ℕ} → NumberingOf n A r s heirs → v < n → subtree_size t r v ≡ Ok (at s.size v)
   size_re_rooted {r} {s} {v = v} B hv =
       subtree_size_lem G B.spans.rooted.root_below hv
-      ∙ ap Is (sym (size-count B.numbering hv (through? t v r)
+      ∙ ap Ok (sym (size-count B.numbering hv (through? t v r)
       (λ x hx. Iff.trans (through_on t v r x) (back (anc_on_path B.spans v hx)))))
     where
       back : {P Q : Type 0} → P ↔ Q → Q ↔ P

@@ -1,4 +1,5 @@
 -- The queries that read one entry: the number of vertices, the root, a depth, a number, and the numbers of a subtree.
+use Rattle.std.specs.Prelude.{Ok, Err}
 use Prim.Native.Nat.{ℕ, ◌+◌, ◌≤◌, ◌<◌}
 use mathlib.Core.Path.{◌≡◌, sym, ap, ◌∙◌}
 use mathlib.Core.Logic.{◌↔◌}
@@ -13,16 +14,14 @@ use Rattle.tables.specs.Tables.{Six}
 use Rattle.answers.specs.Choice.{pick, both}
 use Rattle.climb.specs.Sound.{depth_in, id_in, sound?}
 use Rattle.queries.specs.Queries.{vertex_count, root_of, depth_of, vertex_id, size_sound?, subtree_range}
-use Rattle.answers.specs.declared.answer.Answer.TheVariants.{Is, Refused}
 use Rattle.answers.specs.declared.answer.Refusal.TheVariants.{BadTable}
-use Rattle.answers.specs.declared.answer.Interval.TheVariants.{Between, Refused as NoInterval}
 use Rattle.pathlaws.specs.Given.{Given, AncIn}
 use Rattle.pathlaws.proofs.Standing.{both_pass, sound_vertex, answered}
 
 module _ {n root : ℕ} {A : ℕ → List ℕ} {t : Six} {kids : ℕ → List ℕ} (G : Given n A root t kids) where
   -- `vertex_count` answers n
-  pub vertex_count_lem : vertex_count t ≡ Is n
-  vertex_count_lem = answered G [] Refused (λ m. Is m) tt
+  pub vertex_count_lem : vertex_count t ≡ Ok n
+  vertex_count_lem = answered G [] Err (λ m. Ok m) tt
 
   -- the root has the number 0
   order_root : at t.order 0 ≡ root
@@ -30,21 +29,21 @@ module _ {n root : ℕ} {A : ℕ → List ℕ} {t : Six} {kids : ℕ → List �
       ap (at t.order) (sym G.tables.numbering.arrangement.root_id) ∙ G.tables.numbering.inverse root G.tables.spans.rooted.root_below
 
   -- `root` answers the root
-  pub root_answer : root_of t ≡ Is root
+  pub root_answer : root_of t ≡ Ok root
   root_answer =
       let b = G.tables.spans.rooted.root_below in
-      answered G [] Refused (λ m. pick (both (ltb (at t.order 0) m) (sound? m t (at t.order 0))) (Is (at t.order 0)) (Refused BadTable)) tt
+      answered G [] Err (λ m. pick (both (ltb (at t.order 0) m) (sound? m t (at t.order 0))) (Ok (at t.order 0)) (Err BadTable)) tt
       ∙ rw (order_root, lt-ltb root n b, sound_vertex G b)
 
   -- `depth` answers the depth
-  pub depth_answer : {v : ℕ} → v < n → depth_of t v ≡ Is (depth_in t v)
+  pub depth_answer : {v : ℕ} → v < n → depth_of t v ≡ Ok (depth_in t v)
   depth_answer {v} hv =
-      answered G (v ∷ []) Refused (λ m. pick (sound? m t v) (Is (depth_in t v)) (Refused BadTable)) (hv, tt) ∙ rw (sound_vertex G hv)
+      answered G (v ∷ []) Err (λ m. pick (sound? m t v) (Ok (depth_in t v)) (Err BadTable)) (hv, tt) ∙ rw (sound_vertex G hv)
 
   -- `vertex_id` answers the number
-  pub id_answer : {v : ℕ} → v < n → vertex_id t v ≡ Is (id_in t v)
+  pub id_answer : {v : ℕ} → v < n → vertex_id t v ≡ Ok (id_in t v)
   id_answer {v} hv =
-      answered G (v ∷ []) Refused (λ m. pick (sound? m t v) (Is (id_in t v)) (Refused BadTable)) (hv, tt) ∙ rw (sound_vertex G hv)
+      answered G (v ∷ []) Err (λ m. pick (sound? m t v) (Ok (id_in t v)) (Err BadTable)) (hv, tt) ∙ rw (sound_vertex G hv)
 
   -- the size of a vertex is one that a query may use
   pub size_pass : {v : ℕ} → v < n → size_sound? n t v ≡ true
@@ -53,10 +52,10 @@ module _ {n root : ℕ} {A : ℕ → List ℕ} {t : Six} {kids : ℕ → List �
       (le-leb (id_in t v + at t.size v) n (interval-below G.tables.numbering.arrangement hv))
 
   -- `subtree_range` answers the numbers from that of the vertex on, as many as its size
-  pub range_answer : {v : ℕ} → v < n → subtree_range t v ≡ Between (id_in t v) (id_in t v + at t.size v)
+  pub range_answer : {v : ℕ} → v < n → subtree_range t v ≡ Ok (id_in t v, id_in t v + at t.size v)
   range_answer {v} hv =
-      answered G (v ∷ []) NoInterval
-      (λ m. pick (both (sound? m t v) (size_sound? m t v)) (Between (id_in t v) (id_in t v + at t.size v)) (NoInterval BadTable)) (hv, tt)
+      answered G (v ∷ []) Err
+      (λ m. pick (both (sound? m t v) (size_sound? m t v)) (Ok (id_in t v, id_in t v + at t.size v)) (Err BadTable)) (hv, tt)
       ∙ rw (both_pass (sound_vertex G hv) (size_pass hv))
 
   -- which are those of the vertices below it

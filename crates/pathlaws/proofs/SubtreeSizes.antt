@@ -1,4 +1,5 @@
 -- `subtree_size` answers how many vertices have their path to r pass v: the size of v's subtree as if r were the root.
+use Rattle.std.specs.Prelude.{Ok, Err}
 use Prim.Native.Nat.{ℕ, ◌+◌, ◌-◌, ◌<◌}
 use native.Mathlib.Omega.{arith}
 use native.Mathlib.Decide.{dec_le, ℕ_discrete}
@@ -20,7 +21,6 @@ use Rattle.tables.specs.Tables.{Six}
 use Rattle.answers.specs.Choice.{pick, both}
 use Rattle.climb.specs.Sound.{depth_in, id_in, sound?}
 use Rattle.queries.specs.Queries.{re_rooted_size, subtree_size}
-use Rattle.answers.specs.declared.answer.Answer.TheVariants.{Is, Refused}
 use Rattle.answers.specs.declared.answer.Refusal.TheVariants.{BadTable}
 use Rattle.pathlaws.specs.Given.{Given, path_in, OnIn, AncIn, through?}
 use Rattle.pathlaws.proofs.Standing.{both_pass, sound_vertex, answered}
@@ -54,13 +54,13 @@ module _ {n root : ℕ} {A : ℕ → List ℕ} {t : Six} {kids : ℕ → List �
   ]
 
   -- where r lies outside v's range, the size is v's own
-  size_outside : {r v : ℕ} → r < n → v < n → (AncIn t v r → ⊥) → re_rooted_size n t r v ≡ Is (at t.size v)
+  size_outside : {r v : ℕ} → r < n → v < n → (AncIn t v r → ⊥) → re_rooted_size n t r v ≡ Ok (at t.size v)
   size_outside hr hv f = rw (size_pass G hv, out_of_range hv hr f)
 
   -- where r lies below v, it is all but the size of the child towards r
   size_inside :
       {r v : ℕ} → r < n → v < n → AncIn t v r → depth_in t v < depth_in t r
-      → re_rooted_size n t r v ≡ Is (n - at t.size (climb (at t.parent) (depth_in t r - depth_in t v - 1) r))
+      → re_rooted_size n t r v ≡ Ok (n - at t.size (climb (at t.parent) (depth_in t r - depth_in t v - 1) r))
   size_inside {r} {v} hr hv a h =
       let c = child_towards G.tables.spans.rooted hr a h in
       rw (
@@ -87,11 +87,11 @@ module _ {n root : ℕ} {A : ℕ → List ℕ} {t : Six} {kids : ℕ → List �
   -- the size re-rooted at another vertex counts the vertices whose path to it passes v
   re_rooted_counts :
       {r v : ℕ} → r < n → v < n → r ≢ v → (test : ℕ → Bool) → ((x : ℕ) → x < n → (test x ≡ true) ↔ OnIn t v x r)
-      → re_rooted_size n t r v ≡ Is (how_many n test)
+      → re_rooted_size n t r v ≡ Ok (how_many n test)
   re_rooted_counts {r} {v} hr hv d test f = elim (anc? (at t.parent) (at t.depth) v r) [
     | no g ↦
         size_outside hr hv g
-        ∙ ap Is (size-count G.tables.numbering hv test (λ x hx. Iff.trans (f x hx) (below_side G.tables.spans.rooted hv hr hx g)))
+        ∙ ap Ok (size-count G.tables.numbering hv test (λ x hx. Iff.trans (f x hx) (below_side G.tables.spans.rooted hv hr hx g)))
     | yes a ↦ elim (dec_le (depth_in t r) (depth_in t v)) [
       | yes h ↦ absurd (d (sym (anc_same (at t.parent) (at t.depth) v r a (omega arith))))
       | no q ↦
@@ -101,25 +101,25 @@ module _ {n root : ℕ} {A : ℕ → List ℕ} {t : Six} {kids : ℕ → List �
           let g : (x : ℕ) → x < n → (test x ≡ true) ↔ (AncIn t y x → ⊥)
           = λ x hx. Iff.trans (f x hx) (subst (λ (w : ℕ). OnIn t w x r ↔ (AncIn t y x → ⊥)) c.parent
           (other_side G.tables.spans.rooted c.below c.deep hr hx c.above)) in
-          size_inside hr hv a h ∙ ap Is (rest-count c.below test g)
+          size_inside hr hv a h ∙ ap Ok (rest-count c.below test g)
     ]
   ]
 
   -- `subtree_size` answers how many vertices have their path to r pass v, by any test of them
   pub subtree_size_counts :
       {r v : ℕ} → r < n → v < n → (test : ℕ → Bool) → ((x : ℕ) → x < n → (test x ≡ true) ↔ OnIn t v x r)
-      → subtree_size t r v ≡ Is (how_many n test)
+      → subtree_size t r v ≡ Ok (how_many n test)
   subtree_size_counts {r} {v} hr hv test f =
-      answered G (r ∷ v ∷ []) Refused
-      (λ m. pick (both (sound? m t r) (sound? m t v)) (pick (eqb r v) (Is m) (re_rooted_size m t r v)) (Refused BadTable)) (hr, (hv, tt))
+      answered G (r ∷ v ∷ []) Err
+      (λ m. pick (both (sound? m t r) (sound? m t v)) (pick (eqb r v) (Ok m) (re_rooted_size m t r v)) (Err BadTable)) (hr, (hv, tt))
       ∙ rw (both_pass (sound_vertex G hr) (sound_vertex G hv))
       (elim (ℕ_discrete r v) [
         | yes e ↦
             rw (eq-eqb r v e)
-            (ap Is (sym (all_pass n test (λ x hx. (f x hx).1 (subst (OnIn t v x) (sym e) (on_last G.tables.spans.rooted hx hv))))))
+            (ap Ok (sym (all_pass n test (λ x hx. (f x hx).1 (subst (OnIn t v x) (sym e) (on_last G.tables.spans.rooted hx hv))))))
         | no d ↦ rw (ne_eqb r v d) (re_rooted_counts hr hv d test f)
       ])
 
   -- and there is such a test
-  pub subtree_size_lem : {r v : ℕ} → r < n → v < n → subtree_size t r v ≡ Is (how_many n (through? t v r))
+  pub subtree_size_lem : {r v : ℕ} → r < n → v < n → subtree_size t r v ≡ Ok (how_many n (through? t v r))
   subtree_size_lem {r} {v} hr hv = subtree_size_counts hr hv (through? t v r) (λ x hx. through_on t v r x)

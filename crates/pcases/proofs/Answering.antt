@@ -1,4 +1,5 @@
 -- What the example's tables answer, all tables of its graph answer, since it has no others.
+use Rattle.std.specs.Prelude.{Ok, Err}
 use Prim.Native.Nat.{ℕ}
 use mathlib.Core.Path.{◌≡◌, refl, sym, ap, ◌∙◌}
 use mathlib.Core.Bool.{true, false≢true}
@@ -7,11 +8,9 @@ use lib.Dec.{eqb}
 use borrow.Author.Tests.{eqb-true}
 use Rattle.tables.specs.Tables.{Six}
 use Rattle.answers.specs.Choice.{pick}
-use Rattle.answers.specs.Answers.{refusal_code}
+use Rattle.answers.specs.Answers.{refusal_code, Answer}
 use Rattle.answers.specs.declared.answer.Refusal.{Refusal}
-use Rattle.answers.specs.declared.answer.Refusal.TheVariants.{BadSize, NoRoom, BadVertex, BadTable}
-use Rattle.answers.specs.declared.answer.Answer.{Answer}
-use Rattle.answers.specs.declared.answer.Answer.TheVariants.{Is, TooFar, Refused}
+use Rattle.answers.specs.declared.answer.Refusal.TheVariants.{BadSize, NoRoom, BadOffsets, BadVertex, BadRoot, NotSymmetric, Disconnected, HasCycle, BadTable, TooFar}
 use Rattle.ranges.specs.Calls.{Answered, refused, listed, ranges_of}
 use Rattle.ranges.specs.declared.kinds.Direction.{Direction}
 use Rattle.ranges.specs.declared.kinds.Direction.TheVariants.{Forward, Reversed}
@@ -25,26 +24,33 @@ use Rattle.pcases.proofs.Numbering.{tables_right}
 
 -- the refusal that a code stands for
 refusal_of : ℕ → Refusal
-refusal_of c = pick (eqb c 1) BadSize (pick (eqb c 2) NoRoom (pick (eqb c 4) BadVertex BadTable))
+refusal_of c =
+    pick (eqb c 1) BadSize
+    (pick (eqb c 2) NoRoom
+    (pick (eqb c 3) BadOffsets
+    (pick (eqb c 4) BadVertex
+    (pick (eqb c 5) BadRoot
+    (pick (eqb c 6) NotSymmetric (pick (eqb c 7) Disconnected (pick (eqb c 8) HasCycle (pick (eqb c 9) BadTable TooFar))))))))
 
 refusal_of_code : (r : Refusal) → refusal_of (refusal_code r) ≡ r
 unfolding refusal_of
 refusal_of_code BadSize = refl
 refusal_of_code NoRoom = refl
+refusal_of_code BadOffsets = refl
 refusal_of_code BadVertex = refl
+refusal_of_code BadRoot = refl
+refusal_of_code NotSymmetric = refl
+refusal_of_code Disconnected = refl
+refusal_of_code HasCycle = refl
 refusal_of_code BadTable = refl
+refusal_of_code TooFar = refl
 
 same_answer : (a b : Answer) → same_answer? a b ≡ true → a ≡ b
-same_answer (Is x) (Is y) e = ap Is (eqb-true x y e)
-same_answer (Is x) TooFar e = absurd (false≢true e)
-same_answer (Is x) (Refused s) e = absurd (false≢true e)
-same_answer TooFar (Is y) e = absurd (false≢true e)
-same_answer TooFar TooFar e = refl
-same_answer TooFar (Refused s) e = absurd (false≢true e)
-same_answer (Refused r) (Is y) e = absurd (false≢true e)
-same_answer (Refused r) TooFar e = absurd (false≢true e)
-same_answer (Refused r) (Refused s) e =
-    ap Refused (sym (refusal_of_code r) ∙ ap refusal_of (eqb-true (refusal_code r) (refusal_code s) e) ∙ refusal_of_code s)
+same_answer (Ok x) (Ok y) e = ap Ok (eqb-true x y e)
+same_answer (Ok x) (Err s) e = absurd (false≢true e)
+same_answer (Err r) (Ok y) e = absurd (false≢true e)
+same_answer (Err r) (Err s) e =
+    ap Err (sym (refusal_of_code r) ∙ ap refusal_of (eqb-true (refusal_code r) (refusal_code s) e) ∙ refusal_of_code s)
 
 same_direction_lem : (a b : Direction) → same_direction a b ≡ true → a ≡ b
 same_direction_lem Forward Forward e = refl

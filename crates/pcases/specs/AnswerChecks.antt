@@ -1,8 +1,6 @@
 -- Tests of answers and ranges: whether two are the same.
-use Rattle.std.specs.Prelude.{Bool, true, false, List, eqb}
-use Rattle.answers.specs.Answers.{refusal_code}
-use Rattle.answers.specs.declared.answer.Answer.{Answer}
-use Rattle.answers.specs.declared.answer.Answer.TheVariants.{Is, TooFar, Refused}
+use Rattle.std.specs.Prelude.{Bool, true, false, List, eqb, Ok, Err}
+use Rattle.answers.specs.Answers.{refusal_code, Answer}
 use Rattle.answers.specs.Choice.{both}
 use Rattle.ranges.specs.Calls.{Answered, refused, listed}
 use Rattle.ranges.specs.declared.kinds.Direction.{Direction}
@@ -12,15 +10,10 @@ use Rattle.pcases.specs.Checks.{same_list}
 
 -- refusals are told apart by their codes
 abbrev pub same_answer? : Answer → Answer → Bool
-same_answer? (Is x) (Is y) = eqb x y
-same_answer? (Is x) TooFar = false
-same_answer? (Is x) (Refused s) = false
-same_answer? TooFar (Is y) = false
-same_answer? TooFar TooFar = true
-same_answer? TooFar (Refused s) = false
-same_answer? (Refused r) (Is y) = false
-same_answer? (Refused r) TooFar = false
-same_answer? (Refused r) (Refused s) = eqb (refusal_code r) (refusal_code s)
+same_answer? (Ok x) (Ok y) = eqb x y
+same_answer? (Ok x) (Err s) = false
+same_answer? (Err r) (Ok y) = false
+same_answer? (Err r) (Err s) = eqb (refusal_code r) (refusal_code s)
 
 abbrev pub same_direction : Direction → Direction → Bool
 same_direction Forward Forward = true

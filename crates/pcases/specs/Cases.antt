@@ -6,11 +6,11 @@ use Rattle.graph.specs.Lent.{vertices, list_of}
 use Rattle.graph.specs.Validation.{room_of, validation, Validates}
 use Rattle.tables.specs.Tables.{Six, TablesOf}
 use Rattle.queries.specs.Queries.{subtree_size, lca, jump}
-use Rattle.answers.specs.declared.answer.Answer.{Answer}
 use Rattle.ranges.specs.Calls.{listed, ranges_of}
 use Rattle.ranges.specs.declared.kinds.Kind.{Kind}
 use Rattle.ranges.specs.declared.kinds.PathRange.{PathRange}
 use Rattle.centroid.specs.Decomposition.{DecompositionOf}
+use Rattle.answers.specs.Answers.{Answer}
 
 -- a lent graph
 pub record Graph : Type 0 where

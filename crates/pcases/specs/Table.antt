@@ -1,14 +1,14 @@
 -- 01, "Examples with their neighbours": every line that is marked P, quoted, with its cases.
-use Rattle.std.specs.Prelude.{ℕ, List, [], ◌∷◌}
+use Rattle.std.specs.Prelude.{ℕ, List, [], ◌∷◌, Ok, Err}
 use Rattle.answers.specs.Limits.{no_parent}
 use Rattle.answers.specs.Codes.{not_symmetric}
-use Rattle.answers.specs.declared.answer.Answer.TheVariants.{Is, TooFar}
 use Rattle.ranges.specs.Ranges.{piece, range}
 use Rattle.ranges.specs.declared.kinds.Direction.{Direction}
 use Rattle.ranges.specs.declared.kinds.Direction.TheVariants.{Forward, Reversed}
 use Rattle.ranges.specs.declared.kinds.PathRange.{PathRange}
 use Rattle.ranges.specs.declared.kinds.Kind.TheVariants.{Vertices, Edges, Both}
 use Rattle.pcases.specs.Cases.{Graph, Example, size_of, lca_of, jump_of, Case, refused, numbered, answered, ranged, decomposed}
+use Rattle.answers.specs.declared.answer.Refusal.TheVariants.{TooFar}
 
 -- a range as 01 writes it, by its start, its end and R or F
 abbrev pub between : ℕ → ℕ → Direction → PathRange
@@ -65,11 +65,11 @@ table =
     -- "P T: ids of 0..3 are 0,1,3,2; heads 0,0,2,0."
     numbered T
     -- "P T: subtree_size(3,1)=3, subtree_size(0,1)=2."
-    ∷ answered T (size_of 3 1) (Is 3)
-    ∷ answered T (size_of 0 1) (Is 2)
+    ∷ answered T (size_of 3 1) (Ok 3)
+    ∷ answered T (size_of 0 1) (Ok 2)
     -- "P T: lca(3,0,2)=0, lca(0,1,3)=1."
-    ∷ answered T (lca_of 3 0 2) (Is 0)
-    ∷ answered T (lca_of 0 1 3) (Is 1)
+    ∷ answered T (lca_of 3 0 2) (Ok 0)
+    ∷ answered T (lca_of 0 1 3) (Ok 1)
     -- "P T: vertex ranges 3 to 2: (0,3,R),(3,4,F); 2 to 3: (3,4,R),(0,3,F)."
     ∷ ranged T Vertices 3 2 (between 0 3 Reversed ∷ between 3 4 Forward ∷ [])
     ∷ ranged T Vertices 2 3 (between 3 4 Reversed ∷ between 0 3 Forward ∷ [])
@@ -80,8 +80,8 @@ table =
     ∷ ranged T Both 3 2 (between 0 5 Reversed ∷ between 5 7 Forward ∷ [])
     ∷ ranged T Both 2 2 (between 6 7 Forward ∷ [])
     -- "P T: jump(3,2,3)=2; jump(3,2,4) TooFar."
-    ∷ answered T (jump_of 3 2 3) (Is 2)
-    ∷ answered T (jump_of 3 2 4) TooFar
+    ∷ answered T (jump_of 3 2 3) (Ok 2)
+    ∷ answered T (jump_of 3 2 4) (Err TooFar)
     -- "P S: ids of 0..3 are 0,1,3,2; vertex ranges 2 to 3: (3,4,R),(0,1,F),(2,3,F)."
     ∷ numbered S
     ∷ ranged S Vertices 2 3 (between 3 4 Reversed ∷ between 0 1 Forward ∷ between 2 3 Forward ∷ [])

@@ -1,95 +1,48 @@
 // Queries that read one vertex.
 ghost use Rattle.std.specs.Prelude.{◌≡◌};
-ghost use Rattle.tables.specs.Tables.{lent};
+ghost use Rattle.tables.specs.Tables.{six_in};
 ghost use Rattle.queries.specs.Queries.{vertex_count, root_of, depth_of, vertex_id};
 
 use answers::answer::{Answer, Refusal};
-use answers::asked::Verdict;
 use climb::asked::asked;
 use climb::sound::stand;
+use tables::Tables;
 
 // The number of vertices.
-pub fn vertex_count(
-    parent: &[u32],
-    depth: &[u32],
-    head: &[u32],
-    id: &[u32],
-    order: &[u32],
-    size: &[u32],
-) -> Answer
-    ensures { result ≡ vertex_count (lent parent depth head id order size) }
+pub fn vertex_count(tables: &Tables) -> Answer
+    ensures { result ≡ vertex_count (six_in tables.now) }
 {
-    if let Verdict::Refused(refusal) = asked(parent, depth, head, id, order, size, &[]) {
-        return Answer::Refused(refusal);
-    }
-    Answer::Is(parent.len())
+    asked(tables, &[])?;
+    Ok(tables.parent.len())
 }
 
 // The root: the first vertex of the order.
-pub fn root(
-    parent: &[u32],
-    depth: &[u32],
-    head: &[u32],
-    id: &[u32],
-    order: &[u32],
-    size: &[u32],
-) -> Answer
-    ensures { result ≡ root_of (lent parent depth head id order size) }
+pub fn root(tables: &Tables) -> Answer
+    ensures { result ≡ root_of (six_in tables.now) }
 {
-    if let Verdict::Refused(refusal) = asked(parent, depth, head, id, order, size, &[]) {
-        return Answer::Refused(refusal);
+    asked(tables, &[])?;
+    let r = tables.order[0] as usize;
+    if tables.parent.len() <= r {
+        return Err(Refusal::BadTable);
     }
-    let r = order[0] as usize;
-    if parent.len() <= r {
-        return Answer::Refused(Refusal::BadTable);
-    }
-    let found = stand(parent, depth, head, id, r);
-    if !found.sound {
-        return Answer::Refused(Refusal::BadTable);
-    }
-    Answer::Is(r)
+    stand(tables, r)?;
+    Ok(r)
 }
 
 // The depth of v below the root.
-pub fn depth(
-    parent: &[u32],
-    depth: &[u32],
-    head: &[u32],
-    id: &[u32],
-    order: &[u32],
-    size: &[u32],
-    v: usize,
-) -> Answer
-    ensures { result ≡ depth_of (lent parent depth head id order size) v }
+pub fn depth(tables: &Tables, v: usize) -> Answer
+    ensures { result ≡ depth_of (six_in tables.now) v }
 {
-    if let Verdict::Refused(refusal) = asked(parent, depth, head, id, order, size, &[v]) {
-        return Answer::Refused(refusal);
-    }
-    let found = stand(parent, depth, head, id, v);
-    if !found.sound {
-        return Answer::Refused(Refusal::BadTable);
-    }
-    Answer::Is(found.place.depth)
+    asked(tables, &[v])?;
+    let place = stand(tables, v)?;
+    Ok(place.depth)
 }
 
 // The number of v.
-pub fn vertex_id(
-    parent: &[u32],
-    depth: &[u32],
-    head: &[u32],
-    id: &[u32],
-    order: &[u32],
-    size: &[u32],
-    v: usize,
-) -> Answer
-    ensures { result ≡ vertex_id (lent parent depth head id order size) v }
+pub fn vertex_id(tables: &Tables, v: usize) -> Answer
+    ensures { result ≡ vertex_id (six_in tables.now) v }
 {
-    if let Verdict::Refused(refusal) = asked(parent, depth, head, id, order, size, &[v]) {
-        return Answer::Refused(refusal);
-    }
-    let found = stand(parent, depth, head, id, v);
-    if !found.sound {
-        return Answer::Refused(Refusal::BadTable);
-    }
-    Answer::Is(found.place.id)
+    asked(tables, &[v])?;
+    let place = stand(tables, v)?;
+    Ok(place.id)
 }

@@ -1,4 +1,3 @@
-pub mod Bounds
 pub mod Hung
 pub mod Writing
 pub mod Listing

@@ -1,49 +1,34 @@
 // The ranges of a path by value, in an array that every path fits into.
-ghost use Rattle.tables.specs.Tables.{lent};
+ghost use Rattle.tables.specs.Tables.{six_in};
 ghost use Rattle.ranges.specs.Calls.{ranges_of};
 ghost use Rattle.rangelists.specs.Values.{ByValue};
 
 use crate::lists::path_ranges;
-use answers::answer::Listed;
+use answers::answer::Refusal;
 use answers::limits::MOST_RANGES;
 use ranges::kinds::{Kind, STRIDE};
+use tables::Tables;
 
 // The numbers of as many ranges as a path has at most.
 pub const MOST_NUMBERS: usize = STRIDE * MOST_RANGES;
 
-// What a call for ranges answers, and the numbers of its ranges from the front on.
-#[derive(Drop)]
+// How many ranges a path has, and their numbers from the front on.
+#[derive(Clone, Copy)]
 pub struct PathRanges {
-    pub listed: Listed,
+    pub count: usize,
     pub numbers: [u32; MOST_NUMBERS],
 }
 
 // The ranges of one kind, or a refusal. It is never that of too little room.
 pub fn ranges_by_value(
     kind: Kind,
-    parent: &[u32],
-    depth: &[u32],
-    head: &[u32],
-    id: &[u32],
-    order: &[u32],
-    size: &[u32],
+    tables: &Tables,
     u: usize,
     v: usize,
-) -> PathRanges
-    ensures { ByValue (ranges_of kind (lent parent depth head id order size) u v) result }
+) -> Result<PathRanges, Refusal>
+    ensures { ByValue (ranges_of kind (six_in tables.now) u v) result }
 {
     let mut numbers = [0; MOST_NUMBERS];
-    let listed = path_ranges(
-        kind,
-        parent,
-        depth,
-        head,
-        id,
-        order,
-        size,
-        u,
-        v,
-        &mut numbers,
-    );
-    PathRanges { listed, numbers }
+    let count = path_ranges(kind, tables, u, v, &mut numbers)?;
+    Ok(PathRanges { count, numbers })
 }

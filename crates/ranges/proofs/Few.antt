@@ -1,4 +1,5 @@
 -- On any tables a path has few ranges: each side leaves at most floor(log2 n) chains, and the last chain has one range or none.
+use Rattle.std.specs.Prelude.{Ok, Err}
 use Prim.Native.Nat.{ℕ, ◌+◌, ◌*◌, ◌≤◌}
 use native.Mathlib.Omega.{arith}
 use native.Mathlib.Decide.{dec_lt}
@@ -12,13 +13,11 @@ use Rattle.numbering.specs.Log.{log2}
 use Rattle.answers.proofs.Bounds.{chains_few}
 use Rattle.tables.specs.Tables.{Six}
 use Rattle.climb.specs.Asked.{size_of, others_of, tables?}
-use Rattle.climb.specs.Climbing.{climb_to}
+use Rattle.climb.specs.Climbing.{Climbed, climb_to}
 use Rattle.answers.specs.Asked.{vertices?}
 use Rattle.answers.specs.Choice.{pick}
 use Rattle.answers.specs.declared.answer.Refusal.TheVariants.{BadSize, BadVertex}
 use Rattle.answers.proofs.Passed.{sizes}
-use Rattle.climb.specs.declared.places.Climbed.{Climbed}
-use Rattle.climb.specs.declared.places.Climbed.TheVariants.{Met, Lost}
 use Rattle.ranges.specs.declared.kinds.PathRange.{PathRange}
 use Rattle.ranges.specs.declared.kinds.Piece.{Piece}
 use Rattle.ranges.specs.declared.kinds.Kind.{Kind}
@@ -39,11 +38,11 @@ last_one Both p = omega arith
 -- the ranges of a climb are at most one more than both sides' chains
 found_few : (kind : Kind) (n : ℕ) (D : List ℕ) (x : Climbed) (f : Found) → Agree kind n D x f
     → (l : List PathRange) → f ≡ found l → length l ≤ 2 * log2 n + 1
-found_few kind n D Lost f a l e =
+found_few kind n D (Err x) f a l e =
     let z : lost ≡ found l = sym a ∙ e in
     let c : ◌≡◌ {A = ℕ} 0 1 = cc in
     absurd (omega arith)
-found_few kind n D (Met d) f a l e =
+found_few kind n D (Ok d) f a l e =
     let z : found a.list ≡ found l = sym a.same ∙ e in
     let m : a.list ≡ l = cc in
     let k = ap length m in

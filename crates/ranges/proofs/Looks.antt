@@ -1,4 +1,5 @@
 -- Laws of the ranges of a climb: one look in each case, and that they are as many as the climb counts.
+use Rattle.std.specs.Prelude.{Ok, Err}
 use Prim.Native.Nat.{ℕ, ◌+◌, ◌≤◌, ◌<◌}
 use native.Mathlib.Omega.{arith}
 use mathlib.Core.Path.{◌≡◌, refl, ap, ◌∙◌}
@@ -7,12 +8,10 @@ use lib.ListN.{length, length-append, length-map, length-reverse}
 use Rattle.numbering.specs.Log.{log2}
 use Rattle.tables.specs.Tables.{Six}
 use Rattle.climb.specs.Sound.{stand_on, On, Unsound}
-use Rattle.climb.specs.Climbing.{Ascent, strays, meets, u_leaves, v_leaves, ascent, end_of, climb_to}
+use Rattle.climb.specs.Climbing.{Climbed, Ascent, strays, meets, u_leaves, v_leaves, ascent, end_of, climb_to}
 use Rattle.climb.specs.Inner.{Placed, climb_start, u_moved, v_moved}
 use Rattle.climb.specs.declared.places.Place.{Place}
 use Rattle.climb.specs.declared.places.Climb.{Climb}
-use Rattle.climb.specs.declared.places.Climbed.{Climbed}
-use Rattle.climb.specs.declared.places.Climbed.TheVariants.{Met, Lost}
 use Rattle.climb.proofs.Climbs.{leave_chain, ascent_from, ascent_met, ascent_by_u, ascent_by_v, ascent-from, ascent_off_u, ascent_off_v}
 use Rattle.ranges.specs.declared.kinds.PathRange.{PathRange}
 use Rattle.ranges.specs.declared.kinds.Kind.{Kind}
@@ -101,8 +100,8 @@ pub record Counted (kind : Kind) (n : ℕ) (D : List ℕ) (d : Climb) (f : Found
 
 -- both are lost, or neither
 abbrev pub Agree : Kind → ℕ → List ℕ → Climbed → Found → Type 0
-Agree kind n D Lost f = f ≡ lost
-Agree kind n D (Met d) f = Counted kind n D d f
+Agree kind n D (Err e) f = f ≡ lost
+Agree kind n D (Ok d) f = Counted kind n D d f
 
 agree_at : (kind : Kind) (n : ℕ) (D : List ℕ) (x : Ascent) → EndsWell n D (log2 n) (log2 n) x → Agree kind n D (end_of x) (ranges_along kind x)
 agree_at kind n D strays e = refl

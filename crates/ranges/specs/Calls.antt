@@ -1,5 +1,5 @@
 -- What the calls for ranges answer, and what they leave in the lent list.
-use Rattle.std.specs.Prelude.{ℕ, ◌+◌, ◌*◌, ◌≡◌, List, [], ◌∷◌, leb, length}
+use Rattle.std.specs.Prelude.{ℕ, ◌+◌, ◌*◌, ◌≡◌, List, [], ◌∷◌, leb, length, Ok, Err}
 use Rattle.answers.specs.Limits.{max_vertices}
 use Rattle.numbering.specs.Log.{log2}
 use Rattle.tables.specs.Tables.{Six}
@@ -7,14 +7,11 @@ use Rattle.answers.specs.Choice.{pick, both}
 use Rattle.climb.specs.Asked.{size_of, asked}
 use Rattle.answers.specs.declared.answer.Refusal.{Refusal}
 use Rattle.answers.specs.declared.answer.Refusal.TheVariants.{BadSize, NoRoom, BadTable}
-use Rattle.answers.specs.declared.answer.Answer.{Answer}
-use Rattle.answers.specs.declared.answer.Answer.TheVariants.{Is, Refused as NoNumber}
 use Rattle.ranges.specs.declared.kinds.PathRange.{PathRange}
 use Rattle.ranges.specs.declared.kinds.Kind.{Kind}
-use Rattle.answers.specs.declared.answer.Listed.{Listed}
-use Rattle.answers.specs.declared.answer.Listed.TheVariants.{Count, Refused}
 use Rattle.ranges.specs.Ranges.{Found, lost, found, path_ranges}
 use Rattle.ranges.specs.Flat.{stride, flat_front}
+use Rattle.answers.specs.Answers.{Answer, Listed}
 
 -- the ranges of a path, or the refusal that comes before the test of room
 pub data Answered : Type 0 where
@@ -31,8 +28,8 @@ ranges_of kind t u v = asked t (u ∷ v ∷ []) refused (from_found (path_ranges
 
 -- "2 for lists is last": where the list is too short nothing is written; "Entries of a list past its count are unchanged"
 abbrev pub room_answer : Answered → ℕ → Listed
-room_answer (refused x) room = Refused x
-room_answer (listed l) room = pick (leb (stride * length l) room) (Count (length l)) (Refused NoRoom)
+room_answer (refused x) room = Err x
+room_answer (listed l) room = pick (leb (stride * length l) room) (Ok (length l)) (Err NoRoom)
 
 abbrev pub room_list : Answered → List ℕ → List ℕ
 room_list (refused x) lent = lent
@@ -45,4 +42,4 @@ pub record ListedAs (a : Answered) (lent left : List ℕ) (r : Listed) : Type 0 
 
 -- "Range room: 2·floor(log2 n)+1 is always enough, and a call returns that number for n from 1 to 32,768, else refusal 1."
 abbrev pub range_room : ℕ → Answer
-range_room n = pick (both (leb 1 n) (leb n max_vertices)) (Is (2 * log2 n + 1)) (NoNumber BadSize)
+range_room n = pick (both (leb 1 n) (leb n max_vertices)) (Ok (2 * log2 n + 1)) (Err BadSize)

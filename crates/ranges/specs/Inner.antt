@@ -1,13 +1,11 @@
 -- What only the contracts of inner functions cite: what they ask, and what they leave in a slot of a list.
-use Rattle.std.specs.Prelude.{ℕ, ◌+◌, ◌*◌, ◌≤◌, ◌<◌, ◌^◌, List, [], ◌∷◌, length}
+use Rattle.std.specs.Prelude.{ℕ, ◌+◌, ◌*◌, ◌≤◌, ◌<◌, ◌^◌, List, [], ◌∷◌, length, Option, Some, None}
 use Rattle.std.proofs.lemmas.List.Edits.{sets}
 use Rattle.answers.specs.Limits.{max_vertices}
 use Rattle.climb.specs.declared.places.Climb.{Climb}
 use Rattle.ranges.specs.declared.kinds.PathRange.{PathRange}
 use Rattle.ranges.specs.declared.kinds.Piece.{Piece}
 use Rattle.ranges.specs.declared.kinds.Kind.{Kind}
-use Rattle.ranges.specs.declared.chains.Last.{Last}
-use Rattle.ranges.specs.declared.chains.Last.TheVariants.{One, Empty}
 use Rattle.ranges.specs.Ranges.{last_piece, last_range}
 use Rattle.ranges.specs.Flat.{stride, flat}
 
@@ -30,10 +28,10 @@ pub record Ends (c : Climb) : Type 0 where
 abbrev pub last_chain : Kind → Climb → List PathRange
 last_chain kind c = last_range kind (last_piece c.u c.v)
 
--- the ranges of the last chain as a list
-abbrev pub last_list : Last → List PathRange
-last_list (One r) = r ∷ []
-last_list Empty = []
+-- the range of the last chain, or none, as a list
+abbrev pub last_list : Option PathRange → List PathRange
+last_list (Some r) = r ∷ []
+last_list None = []
 
 -- a list with ranges written into its slots, from the given one on
 abbrev pub written : List ℕ → ℕ → List PathRange → List ℕ

@@ -1,17 +1,12 @@
 // The pieces of a path, one to a chain that it leaves and one to its last chain, and the range of each.
+#![tactic(auto, using(answers::proofs::Bounds::vertices_small))]
+
 ghost use Rattle.std.specs.Prelude.{◌≡◌, length};
 ghost use Rattle.ranges.specs.Ranges.{u_piece, v_piece, last_piece, range, chain_range, last_range};
 ghost use Rattle.ranges.specs.Inner.{Numbers, Chain, Ends, last_chain, last_list};
 
 use crate::kinds::{Direction, Kind, PathRange, Piece};
 use climb::places::Climb;
-
-// The range of the last chain, or none where it would be empty.
-#[derive(Clone, Copy)]
-pub enum Last {
-    One(PathRange),
-    Empty,
-}
 
 // The piece of the chain that the u side leaves: from the chain's head up to where the side stands, read high to low.
 pub fn u_piece(climb: Climb) -> Piece
@@ -46,11 +41,10 @@ pub fn last_piece(climb: Climb) -> Piece
 fn range_of(start: usize, end: usize, piece: Piece) -> PathRange
     ensures { result ≡ range start end piece }
 {
-    let direction = piece.direction;
     PathRange {
         start,
         end,
-        direction,
+        direction: piece.direction,
     }
 }
 
@@ -68,28 +62,30 @@ pub fn chain_range(kind: Kind, piece: Piece) -> PathRange
     }
 }
 
-// The range of the last chain, of whose numbers the first is the ancestor's.
-fn last_range(kind: Kind, piece: Piece) -> Last
+// The range of the last chain, of whose numbers the first is the ancestor's, or none where it would be empty.
+#[inline(always)]
+fn last_range(kind: Kind, piece: Piece) -> Option<PathRange>
     requires { Numbers piece }
     ensures { last_list result ≡ last_range kind piece }
 {
     let from = piece.from;
     let to = piece.to;
     match kind {
-        Kind::Vertices => Last::One(range_of(from, to, piece)),
+        Kind::Vertices => Some(range_of(from, to, piece)),
         Kind::Edges => {
             if from + 1 < to {
-                Last::One(range_of(from + 1, to, piece))
+                Some(range_of(from + 1, to, piece))
             } else {
-                Last::Empty
+                None
             }
         }
-        Kind::Both => Last::One(range_of(2 * from, 2 * to - 1, piece)),
+        Kind::Both => Some(range_of(2 * from, 2 * to - 1, piece)),
     }
 }
 
 // The range of the last chain of a climb.
-pub fn last_chain(kind: Kind, climb: Climb) -> Last
+#[inline(always)]
+pub fn last_chain(kind: Kind, climb: Climb) -> Option<PathRange>
     requires { Ends climb }
     ensures { last_list result ≡ last_chain kind climb }
 {
@@ -97,11 +93,8 @@ pub fn last_chain(kind: Kind, climb: Climb) -> Last
 }
 
 // How many ranges the last chain has.
-pub fn last_count(last: Last) -> usize
+pub fn last_count(last: Option<PathRange>) -> usize
     ensures { result ≡ length (last_list last) }
 {
-    match last {
-        Last::One(_) => 1,
-        Last::Empty => 0,
-    }
+    if last.is_some() { 1 } else { 0 }
 }

@@ -3,10 +3,10 @@ ghost use Rattle.std.specs.Prelude.{◌≡◌};
 ghost use Rattle.ranges.specs.Ranges.{piece};
 
 // How a range is read: from its first number to its last, or the other way.
-#[derive(Clone, Copy)]
+#[derive(Clone, Copy, PartialEq, Eq)]
 pub enum Direction {
-    Forward,
-    Reversed,
+    Forward = 0,
+    Reversed = 1,
 }
 
 // The vertices that a path has on one chain: their numbers from `from` up to `to`, the end excluded, and how they are read.
@@ -42,7 +42,7 @@ pub struct PathRange {
 pub const STRIDE: usize = 3;
 
 // Vertices, edges by their children, or both in the doubled numbers.
-#[derive(Clone, Copy)]
+#[derive(Clone, Copy, PartialEq, Eq)]
 pub enum Kind {
     Vertices,
     Edges,

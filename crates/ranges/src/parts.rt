@@ -1,31 +1,15 @@
 // Rule parts: the part of two lent stores that a range names.
-ghost use Rattle.std.specs.Prelude.{◌≡◌, []};
+ghost use Rattle.std.specs.Prelude.{◌≡◌};
 ghost use Rattle.ranges.specs.Parts.{named?, rule_part};
 
 use crate::kinds::Direction;
 use answers::limits::MAX_STORE;
 
-// The empty part of a store.
-fn empty(store: &[u32]) -> &[u32]
-    ensures { result.now ≡ [] }
-{
-    &store[..0]
-}
-
 // Whether two stores of m and k entries are a pair, and the numbers from start up to end a range of theirs.
 pub fn names_part(m: usize, k: usize, start: usize, end: usize) -> bool
     ensures { result ≡ named? m k start end }
 {
-    if m < 1 {
-        return false;
-    }
-    if MAX_STORE < m {
-        return false;
-    }
-    if k != m {
-        return false;
-    }
-    if end <= start {
+    if m < 1 || MAX_STORE < m || k != m || end <= start {
         return false;
     }
     end <= m
@@ -43,12 +27,14 @@ pub fn rule_part<'a>(
     ensures { result.now ≡ rule_part first.now second.now start end direction }
 {
     if !names_part(first.len(), second.len(), start, end) {
-        return empty(first);
+        return &[];
     }
-    if let Direction::Forward = direction {
-        return &first[start..end];
+    match direction {
+        Direction::Forward => &first[start..end],
+        Direction::Reversed => {
+            let from = first.len() - end;
+            let to = first.len() - start;
+            &second[from..to]
+        }
     }
-    let from = first.len() - end;
-    let to = first.len() - start;
-    &second[from..to]
 }

@@ -21,11 +21,8 @@ fn floor_log2(n: usize) -> usize
 pub fn range_room(n: usize) -> Answer
     ensures { result ≡ range_room n }
 {
-    if n < 1 {
-        return Answer::Refused(Refusal::BadSize);
+    if n < 1 || MAX_VERTICES < n {
+        return Err(Refusal::BadSize);
     }
-    if MAX_VERTICES < n {
-        return Answer::Refused(Refusal::BadSize);
-    }
-    Answer::Is(2 * floor_log2(n) + 1)
+    Ok(2 * floor_log2(n) + 1)
 }

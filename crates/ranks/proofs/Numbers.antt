@@ -7,11 +7,11 @@ use mathlib.Core.List.{List}
 use lib.ListN.{length, set, length-set}
 use Rattle.sums.specs.Sum.{at}
 use Rattle.graph.specs.Work.{Only, Put}
-use Rattle.graph.proofs.Frames.{only_refl, only_trans, only_set, at_set_same, at_set_other}
+use Rattle.graph.proofs.Frames.{only_trans, only_set, at_set_same, at_set_other}
 use Rattle.passes.specs.Passes.{region}
-use Rattle.ranks.specs.Ranks.{NumberAsks, NumberAnswers}
+use Rattle.ranks.specs.Ranks.{NumberAsks}
 use Rattle.ranks.specs.Inner.{PlaceAsks, Placed, OneAsks, Numbers, heavy, light}
-use Rattle.ranks.proofs.Ranking.{WeighedTree, Ranking, ranking_start, ranking_heavy, ranking_light, ranking-done, left_enough, left_within}
+use Rattle.ranks.proofs.Ranking.{WeighedTree, Ranking, ranking_heavy, ranking_light, left_enough, left_within}
 
 -- the four stores of `place`
 pub placed : {n j : ℕ} (id end top deep : ℕ) {w : List ℕ} → PlaceAsks n j w
@@ -141,25 +141,7 @@ module _ {n : ℕ} {w w₀ : List ℕ} (a : NumberAsks n w) (t : Placed n 0 0 (a
       reads_kept t.only
       (record { tree = record { earlier = a.earlier; weighed = a.weighed }; up = λ k b. refl; size = λ k b. refl; heavy_child = λ k b. refl })
 
-  -- the first position is placed
-  pub number_start : NumberLoop n w₀ w₀ 1
-  number_start =
-      record {
-        room = omega (arith, a.room, t.only.same_length);
-        ranking = λ p s h r.
-            (let some = a.some_vertex in
-            let e : 2 * n ≡ 2 * n + 0 = omega arith in
-            ranking_start p s h some t.number.here
-            (t.ends.here ∙ ap (at w) e ∙ sym (t.only.before (2 * n + 0) (omega arith)) ∙ r.size 0 some)
-            t.head.here t.depth.here);
-        only = only_refl (4 * n) (8 * n) w₀;
-      }
-
   module _ {w₁ : List ℕ} {j : ℕ} (g : NumberLoop n w₀ w₁ j) where
-    -- work is as long as it was
-    pub number-length : length w₁ ≡ length w
-    number-length = g.only.same_length ∙ t.only.same_length
-
     now : RankingIn n (region 1 n w) (region 2 n w) (region 3 n w) w₁ j
     now = g.ranking (region 1 n w) (region 2 n w) (region 3 n w) reads
 
@@ -183,7 +165,3 @@ module _ {n : ℕ} {w w₀ : List ℕ} (a : NumberAsks n w) (t : Placed n 0 0 (a
               step_in r₁ (g.ranking p s h r) b g.room (subst (λ (u : ℕ). Numbers n j u w₁ w₂) (r₁.up j b) q));
           only = only_trans g.only o;
         }
-
-    -- all are numbered
-    pub number-done : n ≤ j → NumberAnswers n w w₁
-    number-done b = record { ranked = ranking-done now b; only = only_trans t.only g.only }

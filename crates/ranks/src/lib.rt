@@ -6,15 +6,25 @@ ghost use Rattle.ranks.specs.Inner.{PlaceAsks, Placed, OneAsks, Numbers};
 
 use passes::{DEEP, END, HEAVY, ID, SIZE, TOP, UP};
 
-// Gives position j its number, its head and its depth; the numbers of its light children are to be given from `end` down.
-fn place(n: usize, j: usize, id: u32, end: u32, top: u32, deep: u32, work: &mut [u32])
+// What a position is given: its number, where the numbers end that its light children are given from the end on, the position of its
+// head, and its depth.
+#[derive(Clone, Copy)]
+struct Rank {
+    id: u32,
+    end: u32,
+    top: u32,
+    deep: u32,
+}
+
+// Gives position j its rank.
+fn place(n: usize, j: usize, rank: Rank, work: &mut [u32])
     requires { PlaceAsks n j work.old }
-    ensures { Placed n j id end top deep work.old work.new }
+    ensures { Placed n j rank.id rank.end rank.top rank.deep work.old work.new }
 {
-    work[ID * n + j] = id;
-    work[END * n + j] = end;
-    work[TOP * n + j] = top;
-    work[DEEP * n + j] = deep;
+    work[ID * n + j] = rank.id;
+    work[END * n + j] = rank.end;
+    work[TOP * n + j] = rank.top;
+    work[DEEP * n + j] = rank.deep;
 }
 
 // Numbers position j, whose parent is numbered: a heavy child next to its parent on the parent's chain, a light one at the end of what is left of
@@ -27,13 +37,16 @@ fn number_one(n: usize, j: usize, up: usize, work: &mut [u32])
     let deep = work[DEEP * n + up] + 1;
     if work[HEAVY * n + up] as usize == j {
         let id = work[ID * n + up] + 1;
+        let end = id + size;
         let top = work[TOP * n + up];
-        place(n, j, id, id + size, top, deep, work);
+        place(n, j, Rank { id, end, top, deep }, work);
         return;
     }
     let end = work[END * n + up];
-    work[END * n + up] = end - size;
-    place(n, j, end - size, end, j as u32, deep, work);
+    let id = end - size;
+    let top = j as u32;
+    work[END * n + up] = id;
+    place(n, j, Rank { id, end, top, deep }, work);
 }
 
 // Numbers, heads and depths of all positions, from the first position to the last.
@@ -41,12 +54,15 @@ pub fn number(n: usize, work: &mut [u32])
     requires { NumberAsks n work.old }
     ensures { NumberAnswers n work.old work.new }
 {
-    let all = work[SIZE * n];
-    place(n, 0, 0, all, 0, 0, work);
-    let mut j: usize = 1;
-    while j < n {
+    let first = Rank {
+        id: 0,
+        end: work[SIZE * n],
+        top: 0,
+        deep: 0,
+    };
+    place(n, 0, first, work);
+    for j in 1..n {
         let up = work[UP * n + j] as usize;
         number_one(n, j, up, work);
-        j += 1;
     }
 }

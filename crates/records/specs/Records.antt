@@ -1,17 +1,16 @@
 -- What the calls for records answer, and what they leave in the lent slice: "a lent slice of records, one record to a range".
-use Rattle.std.specs.Prelude.{ℕ, ◌≡◌, List, leb, length}
+use Rattle.std.specs.Prelude.{ℕ, ◌≡◌, List, leb, length, Ok, Err}
 use Rattle.paths.specs.Lists.{front}
 use Rattle.answers.specs.Choice.{pick}
 use Rattle.answers.specs.declared.answer.Refusal.TheVariants.{NoRoom}
 use Rattle.ranges.specs.declared.kinds.PathRange.{PathRange}
-use Rattle.answers.specs.declared.answer.Listed.{Listed}
-use Rattle.answers.specs.declared.answer.Listed.TheVariants.{Count, Refused}
 use Rattle.ranges.specs.Calls.{Answered, refused, listed}
+use Rattle.answers.specs.Answers.{Listed}
 
 -- "A query tests 1, then 4; 9 and 10 come as the climb meets them; 2 for lists is last"
 abbrev pub record_answer : Answered → ℕ → Listed
-record_answer (refused x) room = Refused x
-record_answer (listed l) room = pick (leb (length l) room) (Count (length l)) (Refused NoRoom)
+record_answer (refused x) room = Err x
+record_answer (listed l) room = pick (leb (length l) room) (Ok (length l)) (Err NoRoom)
 
 -- where the slice is too short nothing is written; "Entries of a list past its count are unchanged"
 abbrev pub record_list : Answered → List PathRange → List PathRange

@@ -1,19 +1,18 @@
 // Copying records into a lent slice.
-ghost use Rattle.records.specs.Inner.{Copies, Copied};
+ghost use Rattle.std.specs.Prelude.{◌≡◌};
+ghost use Rattle.records.specs.Inner.{Copies, copied};
 
-use crate::plans::{Plan, range_at};
-use answers::answer::Listed;
+use rangelists::values::PathRanges;
+use ranges::flat::range_at;
 use ranges::kinds::PathRange;
 
-// Writes a plan's records into the first entries of a slice, and hands back the plan's answer.
-pub(crate) fn copy_records(plan: Plan, ranges: &mut [PathRange]) -> Listed
-    requires { Copies plan ranges.old }
-    ensures { Copied plan ranges.old ranges.new result }
+// Writes the records of a path into the first entries of a slice.
+pub(crate) fn copy_records(found: PathRanges, ranges: &mut [PathRange])
+    requires { Copies found ranges.old }
+    ensures { ranges.new ≡ copied found.numbers 0 found.count ranges.old }
 {
-    let mut i = 0;
-    while i < plan.count {
-        ranges[i] = range_at(plan, i);
-        i = i + 1;
+    let numbers = found.numbers;
+    for i in 0..found.count {
+        ranges[i] = range_at(&numbers, i);
     }
-    plan.listed
 }

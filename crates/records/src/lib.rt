@@ -3,4 +3,3 @@
 
 pub mod copies;
 pub mod lists;
-pub mod plans;

@@ -1,11 +1,8 @@
 -- What a C caller gets of an answer: its code as the result, its values in the numbers lent for them. "A refused call returns its code and no other
 -- number."
-use Rattle.std.specs.Prelude.{ℕ, ◌<◌, ◌^◌, ◌≡◌, List, [], ◌∷◌}
-use Rattle.answers.specs.Answers.{answer_code, answer_values, interval_code, interval_values, listed_code, listed_values}
-use Rattle.answers.specs.declared.answer.Answer.{Answer}
-use Rattle.answers.specs.declared.answer.Answer.TheVariants.{Is}
-use Rattle.answers.specs.declared.answer.Interval.{Interval}
-use Rattle.answers.specs.declared.answer.Listed.{Listed}
+use Rattle.std.specs.Prelude.{ℕ, ◌≡◌, List, [], ◌∷◌, Result, Ok, Err}
+use Rattle.answers.specs.declared.answer.Refusal.{Refusal}
+use Rattle.answers.specs.Answers.{answer_code, answer_values, interval_code, interval_values, listed_code, listed_values, Answer, Interval, Listed}
 
 -- the number lent, afterwards: the first of the values, and unchanged where there is none
 abbrev pub first_or : ℕ → List ℕ → ℕ
@@ -28,9 +25,10 @@ Handed a before after code = HandedOver (answer_code a) (answer_values a) before
 abbrev pub HandedCount : Listed → ℕ → ℕ → ℕ → Type 0
 HandedCount l before after code = HandedOver (listed_code l) (listed_values l) before after code
 
--- the value fits a 32-bit number
-abbrev pub Small : Answer → Type 0
-Small a = (x : ℕ) → a ≡ Is x → x < 2 ^ 32
+-- what stands in the place lent for an answer, afterwards: its value, or what was there before
+abbrev pub found_or : {A : Type 0} → Result A Refusal → A → A
+found_or (Ok x) before = x
+found_or (Err r) before = before
 
 -- an interval's start and end, each in a number of its own
 pub record HandedEnds (i : Interval) (start end start' end' code : ℕ) : Type 0 where

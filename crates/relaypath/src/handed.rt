@@ -1,48 +1,21 @@
-// Answers in the form that C takes: a code, and the values through numbers lent for them.
-ghost use Rattle.relaypath.specs.Handed.{Handed, HandedCount, HandedEnds, Small};
+// An answer as a code and values.
+ghost use Rattle.std.specs.Prelude.{◌≡◌};
+ghost use Rattle.answers.specs.Answers.{code_of as code_in};
+ghost use Rattle.relaypath.specs.Handed.{found_or, HandedEnds};
 
-use answers::answer::{Answer, Interval, Listed};
-use answers::codes::{DONE, TOO_FAR};
+use answers::answer::{DONE, Interval, Refusal};
 
 // The code of an answer. Its value goes into `answer`, which a refusal leaves as it was.
-pub fn hand(found: Answer, answer: &mut usize) -> u32
-    ensures { Handed found answer.old answer.new result }
+pub fn hand<T: Copy>(found: Result<T, Refusal>, answer: &mut T) -> u32
+    ensures code { result ≡ code_in found }
+    ensures value { answer.new ≡ found_or found answer.old }
 {
     match found {
-        Answer::Is(x) => {
-            *answer = x;
+        Ok(value) => {
+            *answer = value;
             DONE
         }
-        Answer::TooFar => TOO_FAR,
-        Answer::Refused(refusal) => refusal.code(),
-    }
-}
-
-// The same for a number of ranges.
-pub fn hand_count(found: Listed, count: &mut usize) -> u32
-    ensures { HandedCount found count.old count.new result }
-{
-    match found {
-        Listed::Count(x) => {
-            *count = x;
-            DONE
-        }
-        Listed::Refused(refusal) => refusal.code(),
-    }
-}
-
-// The same for an entry of a table, which is a 32-bit number.
-pub fn hand_entry(found: Answer, answer: &mut u32) -> u32
-    requires { Small found }
-    ensures { Handed found answer.old answer.new result }
-{
-    match found {
-        Answer::Is(x) => {
-            *answer = x as u32;
-            DONE
-        }
-        Answer::TooFar => TOO_FAR,
-        Answer::Refused(refusal) => refusal.code(),
+        Err(refusal) => refusal.code(),
     }
 }
 
@@ -51,11 +24,11 @@ pub fn hand_ends(found: Interval, start: &mut usize, end: &mut usize) -> u32
     ensures { HandedEnds found start.old end.old start.new end.new result }
 {
     match found {
-        Interval::Between(a, e) => {
+        Ok((a, e)) => {
             *start = a;
             *end = e;
             DONE
         }
-        Interval::Refused(refusal) => refusal.code(),
+        Err(refusal) => refusal.code(),
     }
 }

@@ -1,47 +1,6 @@
-// What C and Rust link, as a library: each call is one call of the crate that proves it, under its C name, with its answer in the form that C takes.
-// The crate relaypath_c exports them.
+// Answers in the form that C takes: a code, and the values through numbers lent for them. The crate relaypath_c exports each call with its answer
+// handed over so.
 #![tactic(auto)]
 
-pub mod asked;
-pub mod centroids;
 pub mod handed;
-pub mod listing;
-
-ghost use Rattle.graph.specs.Validation.{Validates};
-ghost use Rattle.tables.specs.Tables.{six};
-ghost use Rattle.hld.specs.Build.{Builds};
-
-// Judges the graph of offsets and targets, seen from root: 0 for a tree, else the code of the first test that is not passed. Work needs
-// 8n + E entries, which are zero afterwards.
-pub fn relaypath_validate_tree(
-    offsets: &[u32],
-    targets: &[u32],
-    root: usize,
-    work: &mut [u32],
-) -> u32
-    ensures { Validates offsets.now targets.now root work.old work.new result }
-{
-    validate::validate_tree(offsets, targets, root, work)
-}
-
-// The heavy-light decomposition of the tree of offsets and targets from root: parent, depth, head, id, order and size, each a table of n
-// entries. Answers 0, else the code of the first test that is not passed, and then writes no table. Work needs 8n + E entries, which are zero
-// afterwards.
-pub fn relaypath_try_hld(
-    offsets: &[u32],
-    targets: &[u32],
-    root: usize,
-    parent: &mut [u32],
-    depth: &mut [u32],
-    head: &mut [u32],
-    id: &mut [u32],
-    order: &mut [u32],
-    size: &mut [u32],
-    work: &mut [u32],
-) -> u32
-    ensures { Builds offsets.now targets.now root (six parent.old depth.old head.old id.old order.old size.old) work.old (six parent.new depth.new head.new id.new order.new size.new) work.new result }
-{
-    hld::build::try_hld(
-        offsets, targets, root, parent, depth, head, id, order, size, work,
-    )
-}
+pub mod parts;

@@ -3,6 +3,9 @@ ghost use Rattle.tables.specs.Tables.{lent};
 ghost use Rattle.queries.specs.Queries.{vertex_count, root_of, depth_of, vertex_id, distance as distance_of, lca as lca_of, kth_ancestor, jump as jump_of, subtree_size, subtree_range};
 ghost use Rattle.relaypath.specs.Handed.{Handed, HandedEnds};
 
+use relaypath::handed::{hand, hand_ends};
+use tables::Tables;
+
 // The number of vertices.
 #[unsafe(no_mangle)]
 pub extern "C" fn relaypath_vertex_count(
@@ -16,7 +19,15 @@ pub extern "C" fn relaypath_vertex_count(
 ) -> u32
     ensures { Handed (vertex_count (lent parent depth head id order size)) answer.old answer.new result }
 {
-    relaypath::asked::relaypath_vertex_count(parent, depth, head, id, order, size, answer)
+    let tables = Tables {
+        parent,
+        depth,
+        head,
+        id,
+        order,
+        size,
+    };
+    hand(queries::reads::vertex_count(&tables), answer)
 }
 
 // The root: the first vertex of the order.
@@ -32,7 +43,15 @@ pub extern "C" fn relaypath_root(
 ) -> u32
     ensures { Handed (root_of (lent parent depth head id order size)) answer.old answer.new result }
 {
-    relaypath::asked::relaypath_root(parent, depth, head, id, order, size, answer)
+    let tables = Tables {
+        parent,
+        depth,
+        head,
+        id,
+        order,
+        size,
+    };
+    hand(queries::reads::root(&tables), answer)
 }
 
 // The depth of v below the root.
@@ -49,7 +68,15 @@ pub extern "C" fn relaypath_depth(
 ) -> u32
     ensures { Handed (depth_of (lent parent depth head id order size) v) answer.old answer.new result }
 {
-    relaypath::asked::relaypath_depth(parent, depth, head, id, order, size, v, answer)
+    let tables = Tables {
+        parent,
+        depth,
+        head,
+        id,
+        order,
+        size,
+    };
+    hand(queries::reads::depth(&tables, v), answer)
 }
 
 // The number of v.
@@ -66,7 +93,15 @@ pub extern "C" fn relaypath_vertex_id(
 ) -> u32
     ensures { Handed (vertex_id (lent parent depth head id order size) v) answer.old answer.new result }
 {
-    relaypath::asked::relaypath_vertex_id(parent, depth, head, id, order, size, v, answer)
+    let tables = Tables {
+        parent,
+        depth,
+        head,
+        id,
+        order,
+        size,
+    };
+    hand(queries::reads::vertex_id(&tables, v), answer)
 }
 
 // The number of edges between u and v.
@@ -84,7 +119,15 @@ pub extern "C" fn relaypath_distance(
 ) -> u32
     ensures { Handed (distance_of (lent parent depth head id order size) u v) answer.old answer.new result }
 {
-    relaypath::asked::relaypath_distance(parent, depth, head, id, order, size, u, v, answer)
+    let tables = Tables {
+        parent,
+        depth,
+        head,
+        id,
+        order,
+        size,
+    };
+    hand(between::distance::distance(&tables, u, v), answer)
 }
 
 // The lowest common ancestor of u and v as if r were the root.
@@ -103,7 +146,15 @@ pub extern "C" fn relaypath_lca(
 ) -> u32
     ensures { Handed (lca_of (lent parent depth head id order size) r u v) answer.old answer.new result }
 {
-    relaypath::asked::relaypath_lca(parent, depth, head, id, order, size, r, u, v, answer)
+    let tables = Tables {
+        parent,
+        depth,
+        head,
+        id,
+        order,
+        size,
+    };
+    hand(between::lca::lca(&tables, r, u, v), answer)
 }
 
 // The vertex k steps above v.
@@ -121,7 +172,15 @@ pub extern "C" fn relaypath_kth_ancestor(
 ) -> u32
     ensures { Handed (kth_ancestor (lent parent depth head id order size) v k) answer.old answer.new result }
 {
-    relaypath::asked::relaypath_kth_ancestor(parent, depth, head, id, order, size, v, k, answer)
+    let tables = Tables {
+        parent,
+        depth,
+        head,
+        id,
+        order,
+        size,
+    };
+    hand(queries::ancestors::kth_ancestor(&tables, v, k), answer)
 }
 
 // The vertex k steps from u on the way to v.
@@ -140,7 +199,15 @@ pub extern "C" fn relaypath_jump(
 ) -> u32
     ensures { Handed (jump_of (lent parent depth head id order size) u v k) answer.old answer.new result }
 {
-    relaypath::asked::relaypath_jump(parent, depth, head, id, order, size, u, v, k, answer)
+    let tables = Tables {
+        parent,
+        depth,
+        head,
+        id,
+        order,
+        size,
+    };
+    hand(between::jump::jump(&tables, u, v, k), answer)
 }
 
 // The number of vertices of v's subtree as if r were the root.
@@ -158,7 +225,15 @@ pub extern "C" fn relaypath_subtree_size(
 ) -> u32
     ensures { Handed (subtree_size (lent parent depth head id order size) r v) answer.old answer.new result }
 {
-    relaypath::asked::relaypath_subtree_size(parent, depth, head, id, order, size, r, v, answer)
+    let tables = Tables {
+        parent,
+        depth,
+        head,
+        id,
+        order,
+        size,
+    };
+    hand(sizes::subtrees::subtree_size(&tables, r, v), answer)
 }
 
 // The numbers of v's subtree, from `start` up to `end`, the end excluded.
@@ -176,5 +251,13 @@ pub extern "C" fn relaypath_subtree_range(
 ) -> u32
     ensures { HandedEnds (subtree_range (lent parent depth head id order size) v) start.old end.old start.new end.new result }
 {
-    relaypath::asked::relaypath_subtree_range(parent, depth, head, id, order, size, v, start, end)
+    let tables = Tables {
+        parent,
+        depth,
+        head,
+        id,
+        order,
+        size,
+    };
+    hand_ends(sizes::subtrees::subtree_range(&tables, v), start, end)
 }

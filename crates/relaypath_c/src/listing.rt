@@ -5,6 +5,9 @@ ghost use Rattle.ranges.specs.declared.kinds.Kind.TheVariants.{Vertices, Edges, 
 ghost use Rattle.relaypath.specs.Handed.{Handed};
 ghost use Rattle.relaypath.specs.Listing.{HandedList, PartNamed};
 
+use relaypath::handed::hand;
+use tables::Tables;
+
 // The vertices of the path from u to v as ranges, three numbers each; `count` gets how many. A refusal leaves both as they were.
 #[unsafe(no_mangle)]
 pub extern "C" fn relaypath_vertex_path_ranges(
@@ -21,8 +24,17 @@ pub extern "C" fn relaypath_vertex_path_ranges(
 ) -> u32
     ensures { HandedList (ranges_of Vertices (lent parent depth head id order size) u v) ranges.old ranges.new count.old count.new result }
 {
-    relaypath::listing::relaypath_vertex_path_ranges(
-        parent, depth, head, id, order, size, u, v, ranges, count,
+    let tables = Tables {
+        parent,
+        depth,
+        head,
+        id,
+        order,
+        size,
+    };
+    hand(
+        rangelists::lists::vertex_path_ranges(&tables, u, v, ranges),
+        count,
     )
 }
 
@@ -42,8 +54,17 @@ pub extern "C" fn relaypath_edge_path_ranges(
 ) -> u32
     ensures { HandedList (ranges_of Edges (lent parent depth head id order size) u v) ranges.old ranges.new count.old count.new result }
 {
-    relaypath::listing::relaypath_edge_path_ranges(
-        parent, depth, head, id, order, size, u, v, ranges, count,
+    let tables = Tables {
+        parent,
+        depth,
+        head,
+        id,
+        order,
+        size,
+    };
+    hand(
+        rangelists::lists::edge_path_ranges(&tables, u, v, ranges),
+        count,
     )
 }
 
@@ -63,8 +84,17 @@ pub extern "C" fn relaypath_vertex_edge_path_ranges(
 ) -> u32
     ensures { HandedList (ranges_of Both (lent parent depth head id order size) u v) ranges.old ranges.new count.old count.new result }
 {
-    relaypath::listing::relaypath_vertex_edge_path_ranges(
-        parent, depth, head, id, order, size, u, v, ranges, count,
+    let tables = Tables {
+        parent,
+        depth,
+        head,
+        id,
+        order,
+        size,
+    };
+    hand(
+        rangelists::lists::vertex_edge_path_ranges(&tables, u, v, ranges),
+        count,
     )
 }
 
@@ -73,7 +103,7 @@ pub extern "C" fn relaypath_vertex_edge_path_ranges(
 pub extern "C" fn relaypath_range_room(n: usize, answer: &mut usize) -> u32
     ensures { Handed (range_room n) answer.old answer.new result }
 {
-    relaypath::listing::relaypath_range_room(n, answer)
+    hand(ranges::room::range_room(n), answer)
 }
 
 // The length of the part that a range names, of the first store for direction 0, of the second for 1; `place` gets where in its store it
@@ -89,5 +119,5 @@ pub extern "C" fn relaypath_rule_part(
 ) -> usize
     ensures { PartNamed first.now second.now start end direction place.new result }
 {
-    relaypath::listing::relaypath_rule_part(first, second, start, end, direction, place)
+    relaypath::parts::rule_part(first, second, start, end, direction, place)
 }

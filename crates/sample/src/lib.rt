@@ -1,55 +1,100 @@
-// What the programs that replay a stored sample share: the sample is 16-bit numbers, the low byte first, and the first is the count of cases.
+// What the programs that replay a stored sample share. A sample is 16-bit numbers, the low byte first, and bytes between them; the first number is
+// the count of cases. Each program says by `Replay` how one case is run and counted, and prints its counts by `Display`.
 #![tactic(auto)]
 
-ghost use Rattle.std.specs.Prelude.{◌≡◌, ◌<◌, ◌≤◌, length, IfOk, OnErr};
+ghost use Rattle.std.specs.Prelude.{◌≡◌, ◌≤◌, ◌+◌, ◌*◌, ◌==◌, ◌++◌, length, IfSome, IfNone, IfOk, OnErr};
 
+use std::fmt::Display;
 use std::io;
 use std::io::{Print, Read};
-use std::num::wrapping_add_usize;
 
 // One byte more than the longest sample, or text, that a program reads.
 pub const MAX_SAMPLE: usize = 65_536;
 
-fn wide(x: u8) -> u32
-    ensures { result < 256 }
-{
-    x as u32
+// What is left of a sample. Each method takes what it returns off the front, and answers None where there is less than it takes.
+#[derive(Clone, Copy)]
+pub struct Sample<'a> {
+    rest: &'a [u8],
 }
 
-// The number at index at of the bytes; 0 where they end before.
-pub fn number(bytes: &[u8], at: usize) -> u32
-    ensures { result < 65536 }
-{
-    if bytes.len() < 2 {
-        return 0;
+impl<'a> Sample<'a> {
+    // All of the bytes.
+    pub fn new(bytes: &'a [u8]) -> Self
+        ensures { result.rest.now ≡ bytes.now }
+    {
+        Sample { rest: bytes }
     }
-    if bytes.len() - 2 < at {
-        return 0;
+
+    // Whether nothing is left.
+    pub fn is_empty(&self) -> bool
+        ensures { result ≡ (length self.now.rest.now == 0) }
+    {
+        self.rest.is_empty()
     }
-    wide(bytes[at]) + 256 * wide(bytes[at + 1])
+
+    // The next number.
+    pub fn number(&mut self) -> Option<u16>
+        ensures stays { IfNone result (self.new ≡ self.old) }
+        ensures taken { IfSome result (λ number. length self.new.rest.now + 2 ≡ length self.old.rest.now) }
+    {
+        let (bytes, rest) = self.rest.split_first_chunk()?;
+        self.rest = rest;
+        Some(u16::from_le_bytes(*bytes))
+    }
+
+    // As many numbers as out has entries, to out. Where there are fewer, out has those.
+    pub fn numbers(&mut self, out: &mut [u32]) -> Option<()>
+        ensures taken { IfSome result (λ done. length self.new.rest.now + 2 * length out.old ≡ length self.old.rest.now) }
+    {
+        for entry in out {
+            *entry = u32::from(self.number()?);
+        }
+        Some(())
+    }
+
+    // The next bytes, so many.
+    pub fn bytes(&mut self, count: usize) -> Option<&'a [u8]>
+        ensures stays { IfNone result (self.new ≡ self.old) }
+        ensures taken { IfSome result (λ bytes. bytes.now ++ self.new.rest.now ≡ self.old.rest.now) }
+        ensures found { IfSome result (λ bytes. length bytes.now ≡ count) }
+    {
+        let (bytes, rest) = self.rest.split_at_checked(count)?;
+        self.rest = rest;
+        Some(bytes)
+    }
 }
 
-// Whether the bytes hold count numbers from index at on.
-pub fn holds(bytes: &[u8], at: usize, count: usize) -> bool {
-    if bytes.len() < at {
-        return false;
-    }
-    count <= (bytes.len() - at) / 2
+// What a program counts over the cases of a sample; it is printed once all have been run.
+pub trait Replay: Display {
+    // Takes the next case off the sample, runs it and counts it. None where no case stands there: it ends early or is too large.
+    fn replay_case(&mut self, sample: &mut Sample) -> Option<()>;
 }
 
-// Fills out with the numbers from index at on, and with zeros where the bytes end before.
-pub fn read_numbers(bytes: &[u8], at: usize, out: &mut [u32]) {
-    let mut from = at;
-    let mut k: usize = 0;
-    while k < out.len() {
-        out[k] = number(bytes, from);
-        from = wrapping_add_usize(from, 2);
-        k += 1;
+// Runs all cases of the sample. None where one does not stand there, or where bytes are left.
+fn replay_cases<R: Replay>(bytes: &[u8], counts: &mut R) -> Option<()> {
+    let mut sample = Sample::new(bytes);
+    for _ in 0..sample.number()? {
+        counts.replay_case(&mut sample)?;
+    }
+    if sample.is_empty() { Some(()) } else { None }
+}
+
+// Runs all cases of the sample that the reader has, and prints the counts, or that the sample is malformed.
+pub fn replay_sample<R: Replay>(
+    rt: &impl Print,
+    reader: &mut impl Read,
+    counts: &mut R,
+) -> io::Result<()> {
+    let mut buffer = [0u8; MAX_SAMPLE];
+    let count = read_sample(reader, &mut buffer)?;
+    match replay_cases(&buffer[..count], counts) {
+        Some(()) => print!(rt; "{counts}"),
+        None => println!(rt; "the sample is malformed"),
     }
 }
 
 // Reads to the front of the buffer, until it is full or the input ends, and returns how many bytes. The one error is that of a read.
-fn read_full<R: Read>(reader: &mut R, buffer: &mut [u8]) -> io::Result<usize>
+pub fn read_full<R: Read>(reader: &mut R, buffer: &mut [u8]) -> io::Result<usize>
     ensures ok { IfOk result (λ count. count ≤ length buffer.new) }
     ensures err { OnErr result (length buffer.new ≡ length buffer.old) }
 {
@@ -75,15 +120,4 @@ pub fn read_sample<R: Read>(reader: &mut R, buffer: &mut [u8]) -> io::Result<usi
         return Ok(0);
     }
     Ok(count)
-}
-
-// Prints a line with a count.
-pub fn print_count(rt: &impl Print, name: &[u8], count: u64) -> io::Result<()> {
-    rt.write_all(name)?;
-    println!(rt; "{count}")
-}
-
-// Prints that the sample ends early, has bytes left or has a case that is too large.
-pub fn print_malformed(rt: &impl Print) -> io::Result<()> {
-    println!(rt; "the sample is malformed")
 }

@@ -2,11 +2,12 @@
 #![tactic(auto)]
 
 ghost use Rattle.std.specs.Prelude.{◌<◌, ◌≡◌};
-ghost use Rattle.tables.specs.Tables.{six};
+ghost use Rattle.tables.specs.Tables.{six_mut, SameTables};
 ghost use Rattle.scatter.specs.Scatter.{Parented, parent_at, scattered, ScatterAsks, Filled};
 
 use answers::limits::NO_PARENT;
 use passes::{DEEP, ID, SIZE, TOP, UP};
+use tables::TablesMut;
 
 // The parent of the vertex at position j, NO_PARENT at the first.
 fn parent_at(n: usize, j: usize, work: &[u32]) -> u32
@@ -21,48 +22,29 @@ fn parent_at(n: usize, j: usize, work: &[u32]) -> u32
 }
 
 // Writes the entries of the vertex at position j.
-fn scatter_one(
-    n: usize,
-    j: usize,
-    parent: &mut [u32],
-    depth: &mut [u32],
-    head: &mut [u32],
-    id: &mut [u32],
-    order: &mut [u32],
-    size: &mut [u32],
-    work: &[u32],
-)
-    requires { (j < n) × ScatterAsks n work.now (six parent.old depth.old head.old id.old order.old size.old) }
-    ensures { six parent.new depth.new head.new id.new order.new size.new ≡ scattered n work.now j (six parent.old depth.old head.old id.old order.old size.old) }
+fn scatter_one(n: usize, j: usize, tables: &mut TablesMut, work: &[u32])
+    requires { (j < n) × ScatterAsks n work.now (six_mut tables.old) }
+    ensures written { six_mut tables.new ≡ scattered n work.now j (six_mut tables.old) }
+    ensures same { SameTables tables.old tables.new }
 {
     let v = work[j] as usize;
     let top = work[TOP * n + j] as usize;
     let number = work[ID * n + j];
-    parent[v] = parent_at(n, j, work);
-    depth[v] = work[DEEP * n + j];
-    head[v] = work[top];
-    id[v] = number;
-    order[number as usize] = work[j];
-    size[v] = work[SIZE * n + j];
+    tables.parent[v] = parent_at(n, j, work);
+    tables.depth[v] = work[DEEP * n + j];
+    tables.head[v] = work[top];
+    tables.id[v] = number;
+    tables.order[number as usize] = work[j];
+    tables.size[v] = work[SIZE * n + j];
 }
 
 // Writes the six tables.
-pub fn scatter(
-    n: usize,
-    parent: &mut [u32],
-    depth: &mut [u32],
-    head: &mut [u32],
-    id: &mut [u32],
-    order: &mut [u32],
-    size: &mut [u32],
-    work: &[u32],
-)
-    requires { ScatterAsks n work.now (six parent.old depth.old head.old id.old order.old size.old) }
-    ensures { Filled n work.now n (six parent.new depth.new head.new id.new order.new size.new) }
+pub fn scatter(n: usize, tables: &mut TablesMut, work: &[u32])
+    requires { ScatterAsks n work.now (six_mut tables.old) }
+    ensures filled { Filled n work.now n (six_mut tables.new) }
+    ensures same { SameTables tables.old tables.new }
 {
-    let mut j: usize = 0;
-    while j < n {
-        scatter_one(n, j, parent, depth, head, id, order, size, work);
-        j += 1;
+    for j in 0..n {
+        scatter_one(n, j, tables, work);
     }
 }

@@ -1,33 +1,38 @@
--- What the contracts of inner functions cite: no reader of a query's meaning needs it. A function is lent the tables that it reads, and its answer
--- is the same whatever the others hold: o and s stand for `order` and `size`.
-use Rattle.std.specs.Prelude.{ℕ, ◌+◌, ◌<◌, ◌≡◌, Bool, List, leb, length}
-use Rattle.tables.specs.Tables.{six}
-use Rattle.answers.specs.Choice.{both}
+-- What the contracts of inner functions cite: no reader of a query's meaning needs it.
+use Rattle.std.specs.Prelude.{ℕ, ◌+◌, ◌<◌, ◌^◌, ◌≡◌, Bool, leb, length, Ok, Err}
+use Rattle.sums.specs.Sum.{at}
+use Rattle.tables.specs.Tables.{Six}
+use Rattle.answers.specs.Choice.{pick, both}
+use Rattle.answers.specs.Answers.{Answer}
+use Rattle.answers.specs.declared.answer.Refusal.TheVariants.{BadTable}
+use Rattle.climb.specs.Asked.{size_of}
 use Rattle.climb.specs.Sound.{stand_on, On}
 use Rattle.climb.specs.Inner.{Even}
-use Rattle.queries.specs.Queries.{without_child}
-use Rattle.answers.specs.declared.answer.Answer.{Answer}
-use Rattle.answers.specs.declared.answer.Answer.TheVariants.{Is}
 use Rattle.climb.specs.declared.places.Place.{Place}
 
 -- the test of a size: of `count` vertices from the number i on
 abbrev pub counted? : (n i count : ℕ) → Bool
 counted? n i count = both (leb 1 count) (leb (i + count) n)
 
-pub record Counts (n : ℕ) (I S : List ℕ) (y : ℕ) : Type 0 where
-  pub id : length I ≡ n
-  pub size : length S ≡ n
-  pub vertex : y < n
+-- the size of y, whose number is i
+pub record Sizes (t : Six) (y i : ℕ) : Type 0 where
+  pub size : length t.size ≡ size_of t
+  pub vertex : y < size_of t
+  pub small : i < 2 ^ 63
 
--- what is left of n vertices without the subtree of y
-abbrev pub LeftOver : (n : ℕ) (I S : List ℕ) (y : ℕ) → Answer → Type 0
-LeftOver n I S y r = (P D H O : List ℕ) → r ≡ without_child n (six P D H I O S) (Is y)
+abbrev pub sound_size : Six → ℕ → ℕ → Answer
+sound_size t y i = pick (counted? (size_of t) i (at t.size y)) (Ok (at t.size y)) (Err BadTable)
+
+pub record Counts (t : Six) (y : ℕ) : Type 0 where
+  pub id : length t.id ≡ size_of t
+  pub size : length t.size ≡ size_of t
+  pub vertex : y < size_of t
 
 -- a and b are sound vertices with what was read of them
-pub record ReRoots (P D H I O S : List ℕ) (a b : Place) : Type 0 where
-  pub even : Even P D H I
-  pub order : length O ≡ length P
-  pub size : length S ≡ length P
-  pub below : b.vertex < length P
-  pub on_a : (o s : List ℕ) → On a ≡ stand_on (length P) (six P D H I o s) a.vertex
-  pub on_b : (o s : List ℕ) → On b ≡ stand_on (length P) (six P D H I o s) b.vertex
+pub record ReRoots (t : Six) (a b : Place) : Type 0 where
+  pub even : Even t
+  pub order : length t.order ≡ size_of t
+  pub size : length t.size ≡ size_of t
+  pub below : b.vertex < size_of t
+  pub on_a : On a ≡ stand_on (size_of t) t a.vertex
+  pub on_b : On b ≡ stand_on (size_of t) t b.vertex

@@ -1,7 +1,7 @@
 -- The whole test: what each call hands to the next, and the answer. Work is w₀ at first, and w₁, w₂, w₃ and w₄ after the calls.
 use Prim.Native.Nat.{ℕ, ◌+◌}
 use native.Mathlib.Omega.{arith}
-use mathlib.Core.Path.{◌≡◌, sym, subst, ◌∙◌, fun_ext}
+use mathlib.Core.Path.{◌≡◌, sym, subst, ◌∙◌}
 use mathlib.Core.Bool.{Bool, true, false, false≢true}
 use mathlib.Core.List.{List}
 use lib.ListN.{length}
@@ -9,7 +9,8 @@ use Rattle.sums.specs.Sum.{at}
 use Rattle.graph.specs.Work.{Only}
 use Rattle.graph.proofs.Frames.{only_trans, only_wider}
 use Rattle.symmetry.specs.Symmetry.{SymmetryAsks, SymmetryAnswers}
-use Rattle.symmetry.specs.Inner.{Turns, Turned, turned, StartAnswers, TurnAsks, TurnAnswers, BackAsks, BackAnswers}
+use Rattle.symmetry.specs.Inner.{Turns, Turned, turned, StartAnswers, TurnAnswers, BackAsks, BackAnswers}
+use Rattle.symmetry.proofs.LoopBack.{keeps-turned}
 use Rattle.symmetry.proofs.Lists.{lent_starts, lent_end, symmetric_turns, turns_symmetric}
 
 -- lists are even if their turned lists are, and the other way round
@@ -19,27 +20,7 @@ even-from-turned n o X T t even v x hv hx = sym (t x v hx hv) ∙ even x v hx hv
 pub even_to-turned : (n : ℕ) (o X T : ℕ → ℕ) → Turns n o X T → Turns n o X X → Turns n o T T
 even_to-turned n o X T t even v x hv hx = t v x hv hx ∙ even x v hx hv ∙ sym (t x v hx hv)
 
--- what writes the cursors alone keeps the turned lists
-pub keeps-turned : (n base : ℕ) {w w' : List ℕ} → Only base (base + n) w w' → turned n base w ≡ turned n base w'
-keeps-turned n base k = fun_ext (λ p. sym (k.after (base + n + p) (omega arith)))
-
 module _ {os ts : List ℕ} {n base : ℕ} {w₀ w₁ : List ℕ} (a : SymmetryAsks os ts n base w₀) (s₁ : StartAnswers os n base w₀ w₁) where
-  -- `turn` may be called
-  pub to_turn : TurnAsks os ts n base w₁
-  to_turn =
-      record {
-        asks =
-            record {
-              size = a.size;
-              some_vertex = a.some_vertex;
-              small = a.small;
-              offsets = a.offsets;
-              targets = a.targets;
-              room = omega (arith, a.room, s₁.only.same_length);
-            };
-        at_start = s₁.at_start;
-      }
-
   only_turn : {w₂ : List ℕ} {r : Bool} → TurnAnswers os ts n base w₁ w₂ r → Only base (base + n + length ts) w₀ w₂
   only_turn t = only_trans (only_wider (omega arith) (omega arith) s₁.only) t.only
 
@@ -60,13 +41,16 @@ module _ {os ts : List ℕ} {n base : ℕ} {w₀ w₁ : List ℕ} (a : SymmetryA
     pub to_back : BackAsks os n base w₃
     to_back =
         record {
-          size = omega (arith, a.size, a.some_vertex);
-          small = a.small;
-          starts = lent_starts a.size a.offsets;
-          room = omega (arith, a.room, lent_end a.size a.offsets, (only_turn t).same_length, s₃.only.same_length);
+          lists =
+              record {
+                size = omega (arith, a.size, a.some_vertex);
+                small = a.small;
+                starts = lent_starts a.size a.offsets;
+                room = omega (arith, a.room, lent_end a.size a.offsets, (only_turn t).same_length, s₃.only.same_length);
+                below = turned₃.below;
+                ascends = turned₃.ascends;
+              };
           at_start = s₃.at_start;
-          below = turned₃.below;
-          ascends = turned₃.ascends;
         }
 
     -- and its answer is the test's

@@ -82,15 +82,43 @@ pub record TurnAnswers (os ts : List ℕ) (n base : ℕ) (w w' : List ℕ) (r : 
   pub wrong : r ≡ false → Turns n (at os) (at ts) (at ts) → ⊥
   pub only : Only base (base + n + length ts) w w'
 
--- `turn_back`: turned lists, and each cursor at its start again
-pub record BackAsks (os : List ℕ) (n base : ℕ) (w : List ℕ) : Type 0 where
+-- `turn_list`: the lists before that of u are turned
+pub record ListAsks (os ts : List ℕ) (n base u : ℕ) (w : List ℕ) : Type 0 where
+  pub asks : SymmetryAsks os ts n base w
+  pub vertex : u < n
+  pub turning : Turning n (at os) (at ts) (turned n base w) (cursor base w) u (at os u)
+
+-- so is the list of u, or the lists are not symmetric
+pub record ListAnswers (os ts : List ℕ) (n base u : ℕ) (w w' : List ℕ) (r : Bool) : Type 0 where
+  pub right : r ≡ true → Turning n (at os) (at ts) (turned n base w') (cursor base w') (u + 1) (at os (u + 1))
+  pub wrong : r ≡ false → Turns n (at os) (at ts) (at ts) → ⊥
+  pub only : Only base (base + n + length ts) w w'
+
+-- turned lists, with a cursor for each vertex before them
+pub record BackLists (os : List ℕ) (n base : ℕ) (w : List ℕ) : Type 0 where
   pub size : n < length os
   pub small : n < 2 ^ 32
   pub starts : Starts n (at os)
   pub room : base + n + at os n ≤ length w
-  pub at_start : AtStart os n base w
   pub below : Below n (at os) (ends (at os)) (turned n base w)
   pub ascends : Ascends n (at os) (ends (at os)) (turned n base w)
+
+-- `turn_list_back`: the turned lists before that of u are turned back
+pub record ListBackAsks (os : List ℕ) (n base u : ℕ) (w : List ℕ) : Type 0 where
+  pub lists : BackLists os n base w
+  pub vertex : u < n
+  pub turning : Turning n (at os) (turned n base w) (turned n base w) (cursor base w) u (at os u)
+
+-- so is that of u, or the turned lists are not symmetric; they stay as they are
+pub record ListBackAnswers (os : List ℕ) (n base u : ℕ) (w w' : List ℕ) (r : Bool) : Type 0 where
+  pub right : r ≡ true → Turning n (at os) (turned n base w) (turned n base w) (cursor base w') (u + 1) (at os (u + 1))
+  pub wrong : r ≡ false → Turns n (at os) (turned n base w) (turned n base w) → ⊥
+  pub only : Only base (base + n) w w'
+
+-- `turn_back`: turned lists, and each cursor at its start again
+pub record BackAsks (os : List ℕ) (n base : ℕ) (w : List ℕ) : Type 0 where
+  pub lists : BackLists os n base w
+  pub at_start : AtStart os n base w
 
 -- whether the turned lists are symmetric; they stay as they are
 pub record BackAnswers (os : List ℕ) (n base : ℕ) (w w' : List ℕ) (r : Bool) : Type 0 where
@@ -98,11 +126,7 @@ pub record BackAnswers (os : List ℕ) (n base : ℕ) (w w' : List ℕ) (r : Boo
   pub wrong : r ≡ false → Turns n (at os) (turned n base w) (turned n base w) → ⊥
   pub only : Only base (base + n) w w'
 
--- the loops' invariants, w₀ being work where the loop begins: the cursors below u are set
-pub record Starting (os : List ℕ) (n base : ℕ) (w₀ w : List ℕ) (u : ℕ) : Type 0 where
-  pub in_range : u ≤ n
-  pub at_start : (x : ℕ) → x < u → cursor base w x ≡ at os x
-  pub only : Only base (base + n) w₀ w
+-- The loops' invariants, w₀ being work where the loop begins.
 
 -- the entries before e are turned
 pub record TurnLoop (os ts : List ℕ) (n base : ℕ) (w₀ w : List ℕ) (u e : ℕ) : Type 0 where

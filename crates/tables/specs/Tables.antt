@@ -8,6 +8,8 @@ use Rattle.paths.specs.Rooted.{Spans}
 use Rattle.answers.specs.Limits.{no_parent}
 use Rattle.numbering.specs.Numbering.{Numbering}
 use Rattle.numbering.specs.RuleOne.{children_of, by_rule_one}
+use Rattle.tables.specs.declared.Tables.{Tables}
+use Rattle.tables.specs.declared.TablesMut.{TablesMut}
 
 -- "six tables .. parent, depth, head, id, order, size" (01, "What is delivered")
 pub record Six : Type 0 where
@@ -45,8 +47,25 @@ TablesOf n A root t = NumberingOf n A root t (kids_by_rule_one A t)
 abbrev pub six : (parent depth head id order size : List ℕ) → Six
 six parent depth head id order size = record { parent = parent; depth = depth; head = head; id = id; order = order; size = size }
 
--- In contracts: the six tables that a call is lent to read, in what it answers and in what it asks. A call that writes them says `six` of what they
--- were and of what it left in them.
+-- in contracts: the six tables that a call is lent to read
+abbrev pub six_in : Tables → Six
+six_in t = six t.parent.now t.depth.now t.head.now t.id.now t.order.now t.size.now
+
+-- the six tables that a call is lent to write, as they are
+abbrev pub six_mut : TablesMut → Six
+six_mut t = six t.parent.now t.depth.now t.head.now t.id.now t.order.now t.size.now
+
+-- they are lent where they were
+pub record SameTables (t t' : TablesMut) : Type 0 where
+  pub parent : t'.parent.ghost_name ≡ t.parent.ghost_name
+  pub depth : t'.depth.ghost_name ≡ t.depth.ghost_name
+  pub head : t'.head.ghost_name ≡ t.head.ghost_name
+  pub id : t'.id.ghost_name ≡ t.id.ghost_name
+  pub order : t'.order.ghost_name ≡ t.order.ghost_name
+  pub size : t'.size.ghost_name ≡ t.size.ghost_name
+
+-- The same where they are lent one by one, as C lends them, in what a call answers and in what it asks. A call that writes them says `six` of what
+-- they were and of what it left in them.
 
 abbrev pub lent : {A B C D E F : Type 0}
     → Both (Bor (List ℕ)) A → Both (Bor (List ℕ)) B → Both (Bor (List ℕ)) C → Both (Bor (List ℕ)) D → Both (Bor (List ℕ)) E → Both (Bor (List ℕ)) F → Six

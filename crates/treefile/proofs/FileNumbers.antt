@@ -1,18 +1,19 @@
--- Laws of a file's numbers: how many they are, what they are, and copying them.
-use Prim.Native.Nat.{ℕ, zero, suc, ◌+◌, ◌*◌, ◌/◌, ◌^◌, ◌≤◌, ◌<◌}
+-- Laws of a file's numbers: how many they are, what they are, their parts, and copying them.
+use Prim.Native.Nat.{ℕ, zero, suc, ◌+◌, ◌-◌, ◌*◌, ◌/◌, ◌^◌, ◌≤◌, ◌<◌}
 use native.Mathlib.Omega.{arith}
-use native.Mathlib.Nat.{add_comm, mul_comm, mul-suc, div-le_self, le-div_iff_mul-le}
+use native.Mathlib.Nat.{add_comm, mul-suc, suc-mul, div-le_self}
 use native.Mathlib.Numerals.{add-one}
 use mathlib.Core.Path.{◌≡◌, refl, sym, ap, ap₂, ◌∙◌, subst}
-use mathlib.Core.List.{List, [], ◌∷◌, ◌++◌}
-use lib.ListN.{length, take, drop, set, length-append, length-drop}
-use lib.Seq.{drop-cons, drop-drop, take-nil, set_at, append_snoc, take-suc, length-take-le, get_or-drop}
+use mathlib.Core.List.{List, ◌∷◌, ◌++◌}
+use lib.ListN.{length, take, drop, set, get_or, length-drop}
+use lib.Seq.{drop-cons, drop-drop, take-take, set_at, append_snoc, take-suc, length-take-le}
+use Rattle.std.proofs.lemmas.List.{drop-take}
 use Rattle.sums.specs.Sum.{at}
 use Rattle.treefile.specs.declared.words.Width.{Width}
 use Rattle.treefile.specs.declared.words.Width.TheVariants.{Narrow, Wide}
+use Rattle.treefile.specs.declared.words.Words.{Words}
 use Rattle.treefile.specs.File.{little_endian, numbers_in, numbers}
-use Rattle.paths.specs.Lists.{front}
-use Rattle.treefile.specs.Sections.{bytes_in, Little, Number, Copies, copied}
+use Rattle.treefile.specs.Sections.{bytes_in, words_in, Little, Number}
 
 in-length : (k w : ℕ) (l : List ℕ) → length (numbers_in k w l) ≡ k
 in-length zero w l = refl
@@ -23,15 +24,15 @@ pub numbers-length : (w : ℕ) (l : List ℕ) → length (numbers w l) ≡ lengt
 unfolding numbers
 numbers-length w l = in-length (length l / w) w l
 
-pub numbers_few : (w : ℕ) (l : List ℕ) → length (numbers w l) ≤ length l
-numbers_few w l = subst (λ (n : ℕ). n ≤ length l) (sym (numbers-length w l)) (div-le_self (length l) w)
-
 -- the k bytes of a number are there
-pub number_within : (w k : ℕ) (l : List ℕ) (i : ℕ) → w ≡ k → 0 < k → i < length (numbers w l) → k * i + k ≤ length l
-number_within w k l i e some h =
-    let there : suc i ≤ length l / k = subst (λ (n : ℕ). i < length l / n) e (subst (λ (n : ℕ). i < n) (numbers-length w l) h) in
-    let whole : suc i * k ≤ length l = (le-div_iff_mul-le some).0 there in
-    subst (λ (n : ℕ). n ≤ length l) (mul_comm (suc i) k ∙ mul-suc k i) whole
+pub number_within : (w : Words) (k i : ℕ) → bytes_in w.width ≡ k → i < length (words_in w) → k * i + k ≤ length w.bytes.now
+number_within w k i e h =
+    subst (λ (n : ℕ). n * i + n ≤ length w.bytes.now) e
+    (go w.width (subst (λ (n : ℕ). i < n) (numbers-length (bytes_in w.width) w.bytes.now) h))
+  where
+    go : (width : Width) → i < length w.bytes.now / bytes_in width → bytes_in width * i + bytes_in width ≤ length w.bytes.now
+    go Narrow there = omega arith
+    go Wide there = omega arith
 
 in_at : (k w : ℕ) (l : List ℕ) (i : ℕ) → i < k → at (numbers_in k w l) i ≡ little_endian (take w (drop (w * i) l))
 in_at zero w l i h = absurd (omega arith)
@@ -46,47 +47,69 @@ numbers_at : (w : ℕ) (l : List ℕ) (i : ℕ) → i < length (numbers w l) →
 unfolding numbers
 numbers_at w l i h = in_at (length l / w) w l i (subst (λ (n : ℕ). i < n) (in-length (length l / w) w l) h)
 
--- a number of k bytes by the bytes, and of two pairs
-pub number_little : (w k : ℕ) (l : List ℕ) (i r : ℕ) → w ≡ k → i < length (numbers w l) → Little k l (k * i) r → Number w l i r
-number_little w k l i r e h n =
-    subst (λ (x : ℕ). i < length (numbers x l) → Number x l i r) (sym e)
-    (λ there. record { value = n.value ∙ sym (numbers_at k l i there); small = n.small }) h
+-- a number of k bytes by the bytes
+pub number_little : (w : Words) (k i r : ℕ) → bytes_in w.width ≡ k → i < length (words_in w) → Little k w.bytes.now (k * i) r
+    → Number (bytes_in w.width) w.bytes.now i r
+number_little w k i r e h n =
+    let there = numbers_at (bytes_in w.width) w.bytes.now i h in
+    let is = ap (λ (m : ℕ). little_endian (take m (drop (m * i) w.bytes.now))) (sym e) in
+    record { value = n.value ∙ is ∙ sym there; small = subst (λ (m : ℕ). r < 256 ^ m) (sym e) n.small }
 
-little_first : (w : ℕ) (l : List ℕ) → little_endian (take (suc w) l) ≡ at l 0 + 256 * little_endian (take w (drop 1 l))
-little_first w [] = let e = ap little_endian (take-nil {A = ℕ} w) in omega arith
-little_first w (b ∷ l) = refl
+-- the first n numbers are those of the first bytes, and the others those of the other bytes
+in_take : (n k w : ℕ) (l : List ℕ) → n ≤ k → take n (numbers_in k w l) ≡ numbers_in n w (take (n * w) l)
+in_take zero k w l h = refl
+in_take (suc n) zero w l h = absurd (omega arith)
+in_take (suc n) (suc k) w l h =
+    let e : suc n * w ≡ w + n * w = suc-mul n w ∙ add_comm (n * w) w in
+    let first = take-take w (w + n * w) l (omega arith) in
+    ap₂ (λ (x : ℕ) (r : List ℕ). x ∷ r) (ap little_endian (sym first))
+    (in_take n k w (drop w l) (omega arith) ∙ ap (numbers_in n w) (sym (drop-take w (n * w) l)))
+    ∙ ap (λ (m : ℕ). little_endian (take w (take m l)) ∷ numbers_in n w (drop w (take m l))) (sym e)
 
-little_next : (w p : ℕ) (l : List ℕ) → little_endian (take (suc w) (drop p l)) ≡ at l p + 256 * little_endian (take w (drop (p + 1) l))
-little_next w p l =
-    let e : p + 0 ≡ p = omega arith in
-    let first : at (drop p l) 0 ≡ at l p = get_or-drop p l 0 0 ∙ ap (at l) e in
-    let rest = ap (λ (m : List ℕ). little_endian (take w m)) (drop-drop 1 p l) in
-    little_first w (drop p l) ∙ ap₂ (λ (x y : ℕ). x + 256 * y) first rest
+in_drop : (n k j w : ℕ) (l : List ℕ) → n + j ≡ k → drop n (numbers_in k w l) ≡ numbers_in j w (drop (n * w) l)
+in_drop zero k j w l h =
+    let e : 0 ≡ 0 * w = omega arith in
+    let all : k ≡ j = omega arith in
+    ap₂ (λ (i m : ℕ). numbers_in i w (drop m l)) all e
+in_drop (suc n) zero j w l h = absurd (omega arith)
+in_drop (suc n) (suc k) j w l h =
+    let e : w + n * w ≡ suc n * w = sym (suc-mul n w ∙ add_comm (n * w) w) in
+    in_drop n k j w (drop w l) (omega arith) ∙ ap (numbers_in j w) (drop-drop (n * w) w l ∙ ap (λ (m : ℕ). drop m l) e)
 
-pub little-two : (l : List ℕ) (p : ℕ) → at l p < 256 → at l (p + 1) < 256 → Little 2 l p (at l p + 256 * at l (p + 1))
-little-two l p low high =
-    let last : at l (p + 1) + 256 * 0 ≡ at l (p + 1) = omega arith in
-    let value = little_next 1 p l ∙ ap (λ (x : ℕ). at l p + 256 * x) (little_next 0 (p + 1) l ∙ last) in
-    record { value = sym value; small = omega arith }
+fits_whole : (width : Width) (n m : ℕ) → n ≤ m / bytes_in width → n * bytes_in width ≤ m
+fits_whole Narrow n m h = omega arith
+fits_whole Wide n m h = omega arith
 
-pub little-four : (l : List ℕ) (p a b : ℕ) → Little 2 l p a → Little 2 l (p + 2) b → Little 4 l p (a + 65_536 * b)
-little-four l p a b m n =
-    let e : p + 1 + 1 ≡ p + 2 = omega arith in
-    let two = little_next 1 p l in
-    let one = little_next 0 (p + 1) l in
-    let four = little_next 3 p l in
-    let three = little_next 2 (p + 1) l in
-    let rest = ap (λ (k : ℕ). little_endian (take 2 (drop k l))) e in
-    record { value = omega (arith, m.value, n.value); small = omega (arith, m.small, n.small) }
+whole_front : (width : Width) (n : ℕ) → n * bytes_in width / bytes_in width ≡ n
+whole_front Narrow n = omega arith
+whole_front Wide n = omega arith
 
--- a number of either width is below 2 ^ 32
-pub number_small : (width : Width) (r : ℕ) → r < 256 ^ bytes_in width → r < 4_294_967_296
-number_small Narrow r h = omega arith
-number_small Wide r h = omega arith
+whole_back : (width : Width) (n m : ℕ) → n ≤ m / bytes_in width → (m - n * bytes_in width) / bytes_in width ≡ m / bytes_in width - n
+whole_back Narrow n m h = omega arith
+whole_back Wide n m h = omega arith
 
-pub some_bytes : (width : Width) → 0 < bytes_in width
-some_bytes Narrow = omega arith
-some_bytes Wide = omega arith
+module _ (w : Words) (n : ℕ) (h : n ≤ length (words_in w)) where
+  few : n ≤ length w.bytes.now / bytes_in w.width
+  few = subst (λ (k : ℕ). n ≤ k) (numbers-length (bytes_in w.width) w.bytes.now) h
+
+  pub split_within : n * bytes_in w.width ≤ length w.bytes.now
+  split_within = fits_whole w.width n (length w.bytes.now) few
+
+  pub split-front : numbers (bytes_in w.width) (take (n * bytes_in w.width) w.bytes.now) ≡ take n (words_in w)
+  unfolding numbers
+  split-front =
+      let k = length-take-le (n * bytes_in w.width) w.bytes.now split_within in
+      ap (λ (m : ℕ). numbers_in (m / bytes_in w.width) (bytes_in w.width) (take (n * bytes_in w.width) w.bytes.now)) k
+      ∙ ap (λ (m : ℕ). numbers_in m (bytes_in w.width) (take (n * bytes_in w.width) w.bytes.now)) (whole_front w.width n)
+      ∙ sym (in_take n (length w.bytes.now / bytes_in w.width) (bytes_in w.width) w.bytes.now few)
+
+  pub split-back : numbers (bytes_in w.width) (drop (n * bytes_in w.width) w.bytes.now) ≡ drop n (words_in w)
+  unfolding numbers
+  split-back =
+      let k = length-drop (n * bytes_in w.width) w.bytes.now in
+      ap (λ (m : ℕ). numbers_in (m / bytes_in w.width) (bytes_in w.width) (drop (n * bytes_in w.width) w.bytes.now)) k
+      ∙ ap (λ (m : ℕ). numbers_in m (bytes_in w.width) (drop (n * bytes_in w.width) w.bytes.now)) (whole_back w.width n (length w.bytes.now) few)
+      ∙ sym (in_drop n (length w.bytes.now / bytes_in w.width) (length w.bytes.now / bytes_in w.width - n) (bytes_in w.width) w.bytes.now (omega (arith, few)))
 
 -- a list from place p on begins with its entry there
 pub drop_next : (l : List ℕ) (p : ℕ) → p < length l → drop p l ≡ at l p ∷ drop (p + 1) l
@@ -102,41 +125,21 @@ drop_three l p h =
     ∙ ap (λ (r : List ℕ). at l p ∷ at l (p + 1) ∷ r) (drop_next l (p + 2) (omega arith))
     ∙ ap (λ (k : ℕ). at l p ∷ at l (p + 1) ∷ at l (p + 2) ∷ drop k l) e3
 
--- one number more is copied
-copy_more : (s l : List ℕ) (i : ℕ) → i < length s → i < length l → set (take i s ++ drop i l) i (at s i) ≡ take (i + 1) s ++ drop (i + 1) l
-copy_more s l i hs hl =
-    let rest : List ℕ = drop (suc i) l in
-    ap (λ (r : List ℕ). set (take i s ++ r) i (at s i)) (drop-cons l i 0 hl)
-    ∙ set_at (take i s) (at l i) rest (at s i) i (length-take-le i s (omega arith))
-    ∙ sym (append_snoc (take i s) (at s i) rest)
-    ∙ ap (λ (r : List ℕ). r ++ rest) (sym (take-suc s i 0 hs))
+-- one entry more is copied
+pub copied_more : {A : Type 0} {out : List A} {x : A} (s l : List A) (i : ℕ) (d : A) → i < length s → i < length l → x ≡ get_or s i d
+    → out ≡ take i s ++ drop i l → set out i x ≡ take (i + 1) s ++ drop (i + 1) l
+copied_more {A} s l i d hs hl e is =
+    let rest : List A = drop (suc i) l in
+    ap₂ (λ (o : List A) (y : A). set o i y) (is ∙ ap (λ (r : List A). take i s ++ r) (drop-cons l i d hl)) e
+    ∙ set_at (take i s) (get_or l i d) rest (get_or s i d) i (length-take-le i s (omega arith))
+    ∙ sym (append_snoc (take i s) (get_or s i d) rest)
+    ∙ ap (λ (r : List A). r ++ rest) (sym (take-suc s i d hs))
     ∙ ap (λ (k : ℕ). take k s ++ drop k l) (sym (add-one i))
 
--- what is copied stands in front
-pub copy-front : (s l : List ℕ) (n : ℕ) → n ≤ length s → take n s ++ drop n l ≡ front (take n s) l
-copy-front s l n h = ap (λ (k : ℕ). take n s ++ drop k l) (sym (length-take-le n s h))
+pub some_bytes : (width : Width) → 0 < bytes_in width
+some_bytes Narrow = omega arith
+some_bytes Wide = omega arith
 
-copied-length : (s l : List ℕ) (i : ℕ) → i ≤ length s → i ≤ length l → length (take i s ++ drop i l) ≡ length l
-copied-length s l i hs hl = let a = length-take-le i s hs in let b = length-drop i l in let c = length-append (take i s) (drop i l) in omega arith
-
--- the first i of n numbers from place p on are copied
-pub record Copied (ws : List ℕ) (p n i : ℕ) (l out : List ℕ) : Type 0 where
-  pub copies : Copies ws p n l
-  pub so_far : i ≤ n
-  pub now_is : out ≡ copied ws p i l
-  pub same_length : length out ≡ length l
-
-pub copied_none : {ws l : List ℕ} {p n : ℕ} → Copies ws p n l → Copied ws p n 0 l l
-copied_none c = record { copies = c; so_far = omega arith; now_is = refl; same_length = refl }
-
-pub copied_more : {ws l out : List ℕ} {p n i r : ℕ} → i < n → r ≡ at ws (p + i) → Copied ws p n i l out → Copied ws p n (i + 1) l (set out i r)
-copied_more {ws} {l} {out} {p} {n} {i} {r} h e c =
-    let there = c.copies.there in
-    let room = c.copies.room in
-    let long = length-drop p ws in
-    let entry : r ≡ at (drop p ws) i = e ∙ sym (get_or-drop p ws i 0) in
-    let more = ap₂ (λ (o : List ℕ) (x : ℕ). set o i x) c.now_is entry ∙ copy_more (drop p ws) l i (omega arith) (omega arith) in
-    record { copies = c.copies; so_far = omega arith; now_is = more; same_length = ap length more ∙ copied-length (drop p ws) l (i + 1) (omega arith) (omega arith) }
-
-pub copied_all : {ws l out : List ℕ} {p n i : ℕ} → n ≤ i → Copied ws p n i l out → out ≡ copied ws p n l
-copied_all {ws} {l} {p = p} {n} {i} h c = let e : i ≡ n = omega (arith, c.so_far) in c.now_is ∙ ap (λ (k : ℕ). copied ws p k l) e
+-- there are no more numbers than bytes
+pub numbers_few : (w : Words) → length (words_in w) ≤ length w.bytes.now
+numbers_few w = subst (λ (n : ℕ). n ≤ length w.bytes.now) (sym (numbers-length (bytes_in w.width) w.bytes.now)) (div-le_self (length w.bytes.now) (bytes_in w.width))

@@ -16,8 +16,9 @@ use Rattle.ranges.proofs.ReadBack.{flat_ranges}
 use Rattle.ranges.proofs.Slots.{flat-length}
 use Rattle.treefile.specs.Report.{space, range_text, ranges_text, list_text}
 use Rattle.treefile.specs.Flat.{answered_in, taken_by, listed_text, spoken_of}
-use Rattle.treefile.specs.Writing.{Room, Puts}
-use Rattle.treefile.proofs.Writing.{puts_then, puts_as, room_then, room_as}
+use Rattle.treefile.specs.declared.page.Page.{Page}
+use Rattle.treefile.specs.Writing.{Room, Prints}
+use Rattle.treefile.proofs.Writing.{prints_then, prints_as, room_then, room_as}
 
 -- the text of one range more
 ranges_text_more : (l : List PathRange) (r : PathRange) → ranges_text (l ++ (r ∷ [])) ≡ ranges_text l ++ (space ++ range_text r)
@@ -43,16 +44,16 @@ text_longer l i (suc k) h =
     (λ gt. let e : i ≡ suc k = omega arith in subst (λ (j : ℕ). length (text_of l j) ≤ length (text_of l (suc k))) (sym e) (le_refl _))
 
 -- behind the first i ranges there is room for the next
-pub ranges_room : {out out' : List ℕ} {at m : ℕ} (l : List ℕ) (i k : ℕ) → i < k
-    → Puts (ranges_text (ranges_in i l)) at out out' m → Room (ranges_text (ranges_in k l)) at out → Room (space ++ range_text (range_at l i)) m out'
-ranges_room l i k h p room =
+pub ranges_room : {p q : Page} (l : List ℕ) (i k : ℕ) → i < k
+    → Prints (ranges_text (ranges_in i l)) p q → Room (ranges_text (ranges_in k l)) p → Room (space ++ range_text (range_at l i)) q
+ranges_room l i k h w room =
     let longer = text_longer l (suc i) k h in
-    room_then p (room_as (text_more l i) (record { fits = omega (arith, room.fits) }))
+    room_then w (room_as (text_more l i) (record { fits = omega (arith, room.fits) }))
 
 -- the next range is put behind them
-pub ranges_more : {out out' out'' : List ℕ} {at m r : ℕ} (l : List ℕ) (i : ℕ)
-    → Puts (ranges_text (ranges_in i l)) at out out' m → Puts (space ++ range_text (range_at l i)) m out' out'' r → Puts (ranges_text (ranges_in (i + 1) l)) at out out'' r
-ranges_more l i p q = puts_as (sym (ap (text_of l) (add-one i) ∙ text_more l i)) (puts_then p q)
+pub ranges_more : {p q r : Page} (l : List ℕ) (i : ℕ)
+    → Prints (ranges_text (ranges_in i l)) p q → Prints (space ++ range_text (range_at l i)) q r → Prints (ranges_text (ranges_in (i + 1) l)) p r
+ranges_more l i v w = prints_as (sym (ap (text_of l) (add-one i) ∙ text_more l i)) (prints_then v w)
 
 -- an answer and the list that was left say what was answered, where the list has room for it
 pub answer_back : (a : Answered) (lent : List ℕ) → taken_by a ≤ length lent → answered_in (room_answer a (length lent)) (room_list a lent) ≡ a

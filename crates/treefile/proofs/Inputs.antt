@@ -1,49 +1,24 @@
 -- A file is read from exactly the bytes that hold it.
-use Prim.Native.Nat.{ℕ, zero, suc, ◌%◌, ◌≤◌}
+use Prim.Native.Nat.{ℕ, zero, suc, ◌+◌, ◌*◌, ◌%◌, ◌≤◌}
 use native.Mathlib.Omega.{arith}
+use native.Mathlib.Decide.{ℕ_discrete}
 use mathlib.Core.Path.{◌≡◌, refl, sym, ap, ap₂, ◌∙◌, subst}
-use mathlib.Core.Logic.{◌≢◌}
+use mathlib.Core.Logic.{◌≢◌, by_cases}
 use mathlib.Core.Bool.{Bool, true, false}
 use mathlib.Core.List.{List, [], ◌∷◌, ◌++◌}
 use lib.Dec.{eqb, leb}
-use lib.ListN.{length, take, drop, take-append-drop, length-append}
-use lib.Seq.{length-take-le, take-append_seam, drop-append_seam}
+use lib.ListN.{length, length-append}
 use borrow.Author.Tests.{leb-true, le-leb, eqb-true, eqb-false, eq-eqb, ne_eqb}
-use Rattle.answers.specs.Choice.{pick, both}
+use Rattle.answers.specs.Choice.{pick}
 use Rattle.answers.proofs.Choices.{both_true}
-use Rattle.treefile.specs.File.{Query, TreeSections, TreeFile, Section, cut, part, section, TreeRead, bad_tree, tree, with_root, with_targets, with_offsets, read_tree, three?, query?, Queries, bad, all, before, queries_in, query_section, Parsed, bad_file, file, with_queries, after_tree, parse_numbers, parse_as, parse_file, numbers, narrow, max_offsets, max_file_targets, max_queries, max_roots}
-use Rattle.treefile.specs.Parsing.{query_numbers}
+use Rattle.treefile.specs.declared.query.Query.{Query}
+use Rattle.treefile.specs.File.{TreeFile, section, TreeRead, bad_tree, tree, read_tree, three?, query?, Queries, bad, all, before, queries_in, query_section, Parsed, bad_file, file, with_queries, after_tree, parse_numbers, parse_as, parse_file, numbers, narrow, max_offsets, max_file_targets, max_queries}
+use Rattle.treefile.specs.declared.parse.Shape.{Shape}
+use Rattle.treefile.specs.Parsing.{query_numbers, Parses}
+use Rattle.std.specs.Prelude.{Option}
 use Rattle.treefile.specs.Inputs.{counted, file_numbers, GoodQuery, GoodQueries, Holds}
-use Rattle.treefile.proofs.Asking.{queries_good}
-
-clash : {C : Type 0} → ◌≡◌ {A = ℕ} 0 1 → C
-clash z = absurd (omega arith)
-
--- A section stands where it is read from.
-
-section_is : (most : ℕ) (ws l rest : List ℕ) → section most ws ≡ part l rest → (ws ≡ counted l ++ rest) × (length l ≤ most)
-section_is most [] l rest e = clash cc
-section_is most (count ∷ ws) l rest e = told (both (leb count most) (leb count (length ws))) refl e
-  where
-    told : (b : Bool) → both (leb count most) (leb count (length ws)) ≡ b → pick b (part (take count ws) (drop count ws)) cut ≡ part l rest
-        → (count ∷ ws ≡ counted l ++ rest) × (length l ≤ most)
-    told false h e' = clash cc
-    told true h e' =
-        let s = both_true (leb count most) (leb count (length ws)) h in
-        let x : take count ws ≡ l = cc in
-        let y : drop count ws ≡ rest = cc in
-        let k : count ≡ length l = sym (length-take-le count ws (leb-true count (length ws) s.1)) ∙ ap length x in
-        let few = leb-true count most s.0 in
-        (ap₂ (λ (c : ℕ) (m : List ℕ). c ∷ m) k (sym (take-append-drop count ws) ∙ ap₂ (λ (a b : List ℕ). a ++ b) x y), omega arith)
-
-section_of : (most : ℕ) (l rest : List ℕ) → length l ≤ most → section most (counted l ++ rest) ≡ part l rest
-section_of most l rest few =
-    rw (
-      le-leb (length l) most few,
-      le-leb (length l) (length (l ++ rest)) (let k = length-append l rest in omega arith),
-      take-append_seam l rest,
-      drop-append_seam l rest,
-    )
+use Rattle.treefile.proofs.Trees.{clash, tree_is, tree_of}
+use Rattle.treefile.proofs.Queries.{queries_good}
 
 -- A query is good exactly if its test passes.
 
@@ -103,46 +78,6 @@ queries_is (count ∷ ws) qs e = told (leb count max_queries) refl e
 queries_of_lem : (qs : List Query) → length qs ≤ max_queries → GoodQueries qs → query_section (length qs ∷ query_numbers qs) ≡ all qs
 queries_of_lem qs few g = rw (le-leb (length qs) max_queries few) (good-all qs g)
 
--- A tree's sections, from the last to the first.
-
-root_is : (os ts ws : List ℕ) (x : Section) → section max_roots ws ≡ x → (s : TreeSections) (rest : List ℕ) → with_root os ts x ≡ tree s rest
-    → (s.offsets ≡ os) × (s.targets ≡ ts) × (ws ≡ counted (s.root ∷ []) ++ rest)
-root_is os ts ws cut h s rest e = clash cc
-root_is os ts ws (part [] w) h s rest e = clash cc
-root_is os ts ws (part (root ∷ []) w) h s rest e =
-    let z : record { offsets = os; targets = ts; root = root } ≡ s = cc in
-    let y : w ≡ rest = cc in (
-      sym (ap (λ (t : TreeSections). t.offsets) z),
-      sym (ap (λ (t : TreeSections). t.targets) z),
-      (section_is max_roots ws (root ∷ []) w h).0 ∙ ap₂ (λ (t : TreeSections) (m : List ℕ). 1 ∷ t.root ∷ m) z y,
-    )
-root_is os ts ws (part (root ∷ x ∷ l) w) h s rest e = clash cc
-
-targets_is : (os ws : List ℕ) (x : Section) → section max_file_targets ws ≡ x → (s : TreeSections) (rest : List ℕ) → with_targets os x ≡ tree s rest
-    → (s.offsets ≡ os) × (ws ≡ counted s.targets ++ (counted (s.root ∷ []) ++ rest)) × (length s.targets ≤ max_file_targets)
-targets_is os ws cut h s rest e = clash cc
-targets_is os ws (part ts w) h s rest e =
-    let r = root_is os ts w (section max_roots w) refl s rest e in
-    let p = section_is max_file_targets ws ts w h in
-    (r.0, p.0 ∙ ap₂ (λ (a b : List ℕ). counted a ++ b) (sym r.1) r.2, (let k = ap length r.1 in let few = p.1 in omega arith))
-
-tree_is : (ws : List ℕ) (x : Section) → section max_offsets ws ≡ x → (s : TreeSections) (rest : List ℕ) → with_offsets x ≡ tree s rest
-    → (ws ≡ counted s.offsets ++ (counted s.targets ++ (counted (s.root ∷ []) ++ rest)))
-    × (length s.offsets ≤ max_offsets) × (length s.targets ≤ max_file_targets)
-tree_is ws cut h s rest e = clash cc
-tree_is ws (part os w) h s rest e =
-    let r = targets_is os w (section max_file_targets w) refl s rest e in
-    let p = section_is max_offsets ws os w h in
-    (p.0 ∙ ap₂ (λ (a b : List ℕ). counted a ++ b) (sym r.0) r.1, (let k = ap length r.0 in let few = p.1 in omega arith), r.2)
-
-tree_of : (s : TreeSections) (rest : List ℕ) → length s.offsets ≤ max_offsets → length s.targets ≤ max_file_targets
-    → read_tree (counted s.offsets ++ (counted s.targets ++ (counted (s.root ∷ []) ++ rest))) ≡ tree s rest
-unfolding max_roots
-tree_of s rest few-os few-ts =
-    ap with_offsets (section_of max_offsets s.offsets (counted s.targets ++ (counted (s.root ∷ []) ++ rest)) few-os)
-    ∙ ap (with_targets s.offsets) (section_of max_file_targets s.targets (counted (s.root ∷ []) ++ rest) few-ts)
-    ∙ ap (with_root s.offsets s.targets) (section_of max_roots (s.root ∷ []) rest (omega arith))
-
 -- The whole file.
 
 file_is : (ws : List ℕ) (r : TreeRead) → read_tree ws ≡ r → (f : TreeFile) → after_tree r ≡ file f
@@ -170,34 +105,66 @@ file_is ws (tree s rest) h f e = told (query_section rest) refl e
           q.2,
         )
 
+-- bytes left are a bad file; else the numbers decide
+pub left_bad : (w : ℕ) (bytes : List ℕ) → (length bytes % w ≡ 0 → ⊥) → parse_as w bytes ≡ bad_file
+unfolding parse_as
+left_bad w bytes left = rw (ne_eqb (length bytes % w) 0 left)
+
+pub parse_whole : (w : ℕ) (bytes : List ℕ) → length bytes % w ≡ 0 → parse_as w bytes ≡ after_tree (read_tree (numbers w bytes))
+unfolding parse_as parse_numbers
+parse_whole w bytes none = rw (eq-eqb (length bytes % w) 0 none)
+
+-- a file that was read has these numbers, within the limits
+pub record Read (w : ℕ) (bytes : List ℕ) (f : TreeFile) : Type 0 where
+  pub whole : length bytes % w ≡ 0
+  pub sections : numbers w bytes ≡ file_numbers f
+  pub few_offsets : length f.tree.offsets ≤ max_offsets
+  pub few_targets : length f.tree.targets ≤ max_file_targets
+  pub few_queries : length f.queries ≤ max_queries
+  pub good_queries : GoodQueries f.queries
+
+pub file_read : (w : ℕ) (bytes : List ℕ) (f : TreeFile) → parse_as w bytes ≡ file f → Read w bytes f
+file_read w bytes f e =
+    by_cases (ℕ_discrete (length bytes % w) 0)
+    (λ none.
+    let p = file_is (numbers w bytes) (read_tree (numbers w bytes)) refl f (sym (parse_whole w bytes none) ∙ e) in
+    record { whole = none; sections = p.0; few_offsets = p.1; few_targets = p.2; few_queries = p.3; good_queries = p.4 })
+    (λ left. let never : bad_file ≡ file f = sym (left_bad w bytes left) ∙ e in clash cc)
+
+-- how many numbers a file is
+queries_long : (qs : List Query) → length (query_numbers qs) ≡ 4 * length qs
+queries_long [] = refl
+queries_long (q ∷ qs) = let rest = queries_long qs in omega arith
+
+pub file_numbers-length : (f : TreeFile) → length (file_numbers f) ≡ length f.tree.offsets + length f.tree.targets + 5 + 4 * length f.queries
+file_numbers-length f =
+    let tail : List ℕ = length f.queries ∷ query_numbers f.queries in
+    let last = counted (f.tree.root ∷ []) ++ tail in
+    omega (arith, queries_long f.queries, length-append f.tree.offsets (counted f.tree.targets ++ last), length-append f.tree.targets last)
+
 module _ (bytes : List ℕ) (f : TreeFile) where
   -- what is read is what the bytes hold
   pub read-holds : parse_file bytes ≡ file f → Holds bytes f
-  unfolding parse_as parse_numbers
-  read-holds e = told (eqb (length bytes % narrow) 0) refl e
-    where
-      told : (b : Bool) → eqb (length bytes % narrow) 0 ≡ b → pick b (parse_numbers (numbers narrow bytes)) bad_file ≡ file f → Holds bytes f
-      told false h e' = clash cc
-      told true h e' =
-          let p = file_is (numbers narrow bytes) (read_tree (numbers narrow bytes)) refl f e' in
-          record {
-            whole = eqb-true (length bytes % narrow) 0 h;
-            sections = p.0;
-            few_offsets = p.1;
-            few_targets = p.2;
-            few_queries = p.3;
-            good_queries = p.4;
-          }
+  read-holds e =
+      let r = file_read narrow bytes f e in
+      record {
+        whole = r.whole;
+        sections = r.sections;
+        few_offsets = r.few_offsets;
+        few_targets = r.few_targets;
+        few_queries = r.few_queries;
+        good_queries = r.good_queries;
+      }
 
   -- and what they hold is read
   pub holds_read : Holds bytes f → parse_file bytes ≡ file f
-  unfolding parse_as parse_numbers
   holds_read h =
       let qs = f.queries in
       let rest : List ℕ = length qs ∷ query_numbers qs in
-      rw (eq-eqb (length bytes % narrow) 0 h.whole)
-      (ap parse_numbers h.sections ∙ ap after_tree (tree_of f.tree rest h.few_offsets h.few_targets)
-      ∙ ap (with_queries f.tree) (queries_of_lem qs h.few_queries h.good_queries))
+      parse_whole narrow bytes h.whole
+      ∙ ap (λ (l : List ℕ). after_tree (read_tree l)) h.sections
+      ∙ ap after_tree (tree_of f.tree rest h.few_offsets h.few_targets)
+      ∙ ap (with_queries f.tree) (queries_of_lem qs h.few_queries h.good_queries)
 
 -- bytes that hold no file are a bad one
 pub none_bad : (bytes : List ℕ) → ((f : TreeFile) → Holds bytes f → ⊥) → parse_file bytes ≡ bad_file
@@ -206,3 +173,9 @@ none_bad bytes none = told (parse_file bytes) refl
     told : (p : Parsed) → parse_file bytes ≡ p → p ≡ bad_file
     told bad_file e = refl
     told (file f) e = absurd (none f (read-holds bytes f e))
+
+-- the answer and the buffers are determined
+pub parses-one : {w : ℕ} {bytes os ts os₁ ts₁ os₂ ts₂ : List ℕ} {qs qs₁ qs₂ : List Query} {r₁ r₂ : Option Shape} → Parses w bytes os ts qs os₁ ts₁ qs₁ r₁
+    → Parses w bytes os ts qs os₂ ts₂ qs₂ r₂
+    → (r₁ ≡ r₂) × (os₁ ≡ os₂) × (ts₁ ≡ ts₂) × (qs₁ ≡ qs₂)
+parses-one p q = (p.shape ∙ sym q.shape, p.offsets ∙ sym q.offsets, p.targets ∙ sym q.targets, p.queries ∙ sym q.queries)

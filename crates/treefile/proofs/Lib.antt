@@ -3,10 +3,6 @@ pub mod Writing
 pub mod Flat
 pub mod Report
 pub mod FileNumbers
-pub mod Sections
-pub mod Queries
-pub mod Asking
 pub mod Trees
-pub mod Places
-pub mod Buffers
+pub mod Queries
 pub mod Inputs

@@ -1,4 +1,5 @@
 -- Laws of a report's lines: their parts, and how long they are.
+use Rattle.std.specs.Prelude.{Ok, Err}
 use Prim.Native.Nat.{ℕ, suc, ◌+◌, ◌-◌, ◌*◌, ◌^◌, ◌≤◌, ◌<◌}
 use native.Mathlib.Omega.{arith}
 use mathlib.Core.Path.{◌≡◌, refl, sym, ap, ◌∙◌}
@@ -8,17 +9,15 @@ use lib.Dec.{eqb}
 use lib.ListN.{length, length-append}
 use borrow.Author.Tests.{eq-eqb, ne_eqb}
 use Rattle.tables.specs.Tables.{Six}
-use Rattle.answers.specs.declared.answer.Answer.{Answer}
-use Rattle.answers.specs.declared.answer.Answer.TheVariants.{Is, TooFar, Refused}
-use Rattle.answers.specs.Codes.{too_far}
-use Rattle.answers.specs.Answers.{refusal_code}
+use Rattle.answers.specs.Answers.{refusal_code, Answer}
 use Rattle.answers.specs.Choice.{pick}
 use Rattle.queries.specs.Queries.{distance, lca, kth_ancestor, jump, subtree_size}
 use Rattle.ranges.specs.Calls.{Answered, refused, listed, ranges_of}
 use Rattle.ranges.specs.declared.kinds.Kind.{Kind}
 use Rattle.ranges.specs.declared.kinds.Kind.TheVariants.{Vertices, Edges, Both}
 use Rattle.ranges.specs.declared.kinds.PathRange.{PathRange}
-use Rattle.treefile.specs.File.{Query, TreeFile, max_queries}
+use Rattle.treefile.specs.declared.query.Query.{Query}
+use Rattle.treefile.specs.File.{TreeFile, max_queries}
 use Rattle.treefile.specs.Report.{decimal, space, newline, fields, letter, range_text, ranges_text, number_text, list_text, answer_text, query_line, query_lines, tree_word, tree_line, file_report}
 use Rattle.treefile.specs.Flat.{Low, Short, ShortLists, query_head}
 use Rattle.treefile.specs.Sizes.{most_digits, file_ranges, range_digits, range_size, answer_size, line_size, tree_size, report_size}
@@ -54,9 +53,8 @@ ranges_text_room (r ∷ l) (low, high, rest) =
     omega (arith, range_text_room range_digits r (omega arith) low high, ranges_text_room l rest, length-append (range_text r) (ranges_text l))
 
 pub number_text_room : (a : Answer) → length (number_text a) ≤ 2 * most_digits + 1
-number_text_room (Is x) = omega (arith, decimal_room 0, decimal_room x, length-append (decimal 0) (space ++ decimal x))
-number_text_room TooFar = omega (arith, decimal_room too_far)
-number_text_room (Refused r) = omega (arith, decimal_room (refusal_code r))
+number_text_room (Ok x) = omega (arith, decimal_room 0, decimal_room x, length-append (decimal 0) (space ++ decimal x))
+number_text_room (Err r) = omega (arith, decimal_room (refusal_code r))
 
 pub tree_line_room : (code n root : ℕ) → length (tree_line code n root) ≤ tree_size
 tree_line_room code n root = go (eqb code 0)
@@ -124,11 +122,16 @@ report_room_lem code t f short most =
     let both = length-append first (pick (eqb code 0) (query_lines t 1 f.queries) []) in
     omega (arith, tree_line_room code (length f.tree.offsets - 1) f.tree.root)
 
--- the lines of the first queries, and one line more
+-- the lines of the first queries, and of those behind them
+pub query_lines-append : (t : Six) (place : ℕ) (qs rs : List Query)
+    → query_lines t place (qs ++ rs) ≡ query_lines t place qs ++ query_lines t (place + length qs) rs
+query_lines-append t place [] rs = ap (λ (k : ℕ). query_lines t k rs) (sym (add-zero place))
+query_lines-append t place (x ∷ qs) rs =
+    let e : place + 1 + length qs ≡ place + suc (length qs) = omega arith in
+    ap (λ (l : List ℕ). query_line t place x ++ l) (query_lines-append t (place + 1) qs rs ∙ ap (λ (k : ℕ). query_lines t (place + 1) qs ++ query_lines t k rs) e)
+    ∙ sym (append_assoc (query_line t place x) (query_lines t (place + 1) qs) (query_lines t (place + suc (length qs)) rs))
+
 pub query_lines_more : (t : Six) (place : ℕ) (qs : List Query) (q : Query)
     → query_lines t place (qs ++ (q ∷ [])) ≡ query_lines t place qs ++ query_line t (place + length qs) q
-query_lines_more t place [] q = append-nil (query_line t place q) ∙ ap (λ (k : ℕ). query_line t k q) (sym (add-zero place))
-query_lines_more t place (x ∷ qs) q =
-    let e : place + 1 + length qs ≡ place + suc (length qs) = omega arith in
-    ap (λ (l : List ℕ). query_line t place x ++ l) (query_lines_more t (place + 1) qs q ∙ ap (λ (k : ℕ). query_lines t (place + 1) qs ++ query_line t k q) e)
-    ∙ sym (append_assoc (query_line t place x) (query_lines t (place + 1) qs) (query_line t (place + suc (length qs)) q))
+query_lines_more t place qs q =
+    query_lines-append t place qs (q ∷ []) ∙ ap (λ (l : List ℕ). query_lines t place qs ++ l) (append-nil (query_line t (place + length qs) q))

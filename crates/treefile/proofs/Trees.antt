@@ -1,17 +1,84 @@
--- Laws of a tree's sections: where they stand, and what each of them decides.
-use Prim.Native.Nat.{ℕ, ◌+◌, ◌-◌, ◌≤◌}
+-- Laws of a tree's sections: what is read of them stands where it is read from.
+use Prim.Native.Nat.{ℕ, ◌+◌, ◌≤◌}
 use native.Mathlib.Omega.{arith}
-use mathlib.Core.Path.{◌≡◌, refl, sym, ap, ◌∙◌, subst}
-use mathlib.Core.List.{List, [], ◌∷◌}
-use lib.ListN.{length, take, drop, length-drop}
-use lib.Seq.{get_or-take, get_or-drop}
-use Rattle.sums.specs.Sum.{at}
-use Rattle.treefile.specs.declared.judge.Found.TheVariants.{Count, Cut}
-use Rattle.treefile.specs.declared.judge.TreeFound.{TreeFound}
-use Rattle.treefile.specs.declared.judge.TreeFound.TheVariants.{Sections, BadTree}
-use Rattle.treefile.specs.File.{TreeSections, Section, cut, part, section, TreeRead, bad_tree, tree, with_root, with_targets, with_offsets, read_tree, max_offsets, max_file_targets, max_roots}
-use Rattle.treefile.specs.Sections.{count_of, tree_found, Rooted}
-use Rattle.treefile.proofs.Sections.{Part, section-part, found_part, found_cut}
+use mathlib.Core.Path.{◌≡◌, refl, sym, ap, ap₂, ◌∙◌}
+use mathlib.Core.Bool.{Bool, true, false}
+use mathlib.Core.List.{List, [], ◌∷◌, ◌++◌}
+use lib.Dec.{leb}
+use lib.ListN.{length, take, drop, take-append-drop, length-append, length-drop}
+use lib.Seq.{length-take-le, take-append_seam, drop-append_seam, drop-drop}
+use borrow.Author.Tests.{leb-true, le-leb}
+use Rattle.answers.specs.Choice.{pick, both}
+use Rattle.answers.proofs.Choices.{both_true}
+use Rattle.treefile.specs.File.{TreeSections, Section, cut, part, section, tree, with_root, with_targets, with_offsets, read_tree, max_offsets, max_file_targets, max_roots}
+use Rattle.treefile.specs.Inputs.{counted}
+
+pub clash : {C : Type 0} → ◌≡◌ {A = ℕ} 0 1 → C
+clash z = absurd (omega arith)
+
+-- a section
+pub section_is : (most : ℕ) (ws l rest : List ℕ) → section most ws ≡ part l rest → (ws ≡ counted l ++ rest) × (length l ≤ most)
+section_is most [] l rest e = clash cc
+section_is most (count ∷ ws) l rest e = told (both (leb count most) (leb count (length ws))) refl e
+  where
+    told : (b : Bool) → both (leb count most) (leb count (length ws)) ≡ b → pick b (part (take count ws) (drop count ws)) cut ≡ part l rest
+        → (count ∷ ws ≡ counted l ++ rest) × (length l ≤ most)
+    told false h e' = clash cc
+    told true h e' =
+        let s = both_true (leb count most) (leb count (length ws)) h in
+        let x : take count ws ≡ l = cc in
+        let y : drop count ws ≡ rest = cc in
+        let k : count ≡ length l = sym (length-take-le count ws (leb-true count (length ws) s.1)) ∙ ap length x in
+        let few = leb-true count most s.0 in
+        (ap₂ (λ (c : ℕ) (m : List ℕ). c ∷ m) k (sym (take-append-drop count ws) ∙ ap₂ (λ (a b : List ℕ). a ++ b) x y), omega arith)
+
+section_of : (most : ℕ) (l rest : List ℕ) → length l ≤ most → section most (counted l ++ rest) ≡ part l rest
+section_of most l rest few =
+    rw (
+      le-leb (length l) most few,
+      le-leb (length l) (length (l ++ rest)) (let k = length-append l rest in omega arith),
+      take-append_seam l rest,
+      drop-append_seam l rest,
+    )
+
+-- a tree's sections, from the last to the first
+root_is : (os ts ws : List ℕ) (x : Section) → section max_roots ws ≡ x → (s : TreeSections) (rest : List ℕ) → with_root os ts x ≡ tree s rest
+    → (s.offsets ≡ os) × (s.targets ≡ ts) × (ws ≡ counted (s.root ∷ []) ++ rest)
+root_is os ts ws cut h s rest e = clash cc
+root_is os ts ws (part [] w) h s rest e = clash cc
+root_is os ts ws (part (root ∷ []) w) h s rest e =
+    let z : record { offsets = os; targets = ts; root = root } ≡ s = cc in
+    let y : w ≡ rest = cc in (
+      sym (ap (λ (t : TreeSections). t.offsets) z),
+      sym (ap (λ (t : TreeSections). t.targets) z),
+      (section_is max_roots ws (root ∷ []) w h).0 ∙ ap₂ (λ (t : TreeSections) (m : List ℕ). 1 ∷ t.root ∷ m) z y,
+    )
+root_is os ts ws (part (root ∷ x ∷ l) w) h s rest e = clash cc
+
+targets_is : (os ws : List ℕ) (x : Section) → section max_file_targets ws ≡ x → (s : TreeSections) (rest : List ℕ) → with_targets os x ≡ tree s rest
+    → (s.offsets ≡ os) × (ws ≡ counted s.targets ++ (counted (s.root ∷ []) ++ rest)) × (length s.targets ≤ max_file_targets)
+targets_is os ws cut h s rest e = clash cc
+targets_is os ws (part ts w) h s rest e =
+    let r = root_is os ts w (section max_roots w) refl s rest e in
+    let p = section_is max_file_targets ws ts w h in
+    (r.0, p.0 ∙ ap₂ (λ (a b : List ℕ). counted a ++ b) (sym r.1) r.2, (let k = ap length r.1 in let few = p.1 in omega arith))
+
+pub tree_is : (ws : List ℕ) (x : Section) → section max_offsets ws ≡ x → (s : TreeSections) (rest : List ℕ) → with_offsets x ≡ tree s rest
+    → (ws ≡ counted s.offsets ++ (counted s.targets ++ (counted (s.root ∷ []) ++ rest)))
+    × (length s.offsets ≤ max_offsets) × (length s.targets ≤ max_file_targets)
+tree_is ws cut h s rest e = clash cc
+tree_is ws (part os w) h s rest e =
+    let r = targets_is os w (section max_file_targets w) refl s rest e in
+    let p = section_is max_offsets ws os w h in
+    (p.0 ∙ ap₂ (λ (a b : List ℕ). counted a ++ b) (sym r.0) r.1, (let k = ap length r.0 in let few = p.1 in omega arith), r.2)
+
+pub tree_of : (s : TreeSections) (rest : List ℕ) → length s.offsets ≤ max_offsets → length s.targets ≤ max_file_targets
+    → read_tree (counted s.offsets ++ (counted s.targets ++ (counted (s.root ∷ []) ++ rest))) ≡ tree s rest
+unfolding max_roots
+tree_of s rest few-os few-ts =
+    ap with_offsets (section_of max_offsets s.offsets (counted s.targets ++ (counted (s.root ∷ []) ++ rest)) few-os)
+    ∙ ap (with_targets s.offsets) (section_of max_file_targets s.targets (counted (s.root ∷ []) ++ rest) few-ts)
+    ∙ ap (with_root s.offsets s.targets) (section_of max_roots (s.root ∷ []) rest (omega arith))
 
 -- where the sections of a tree s at place p of the numbers ws stand, and what follows them
 pub record TreeAt (ws : List ℕ) (p : ℕ) (s : TreeSections) (rest : List ℕ) : Type 0 where
@@ -22,146 +89,39 @@ pub record TreeAt (ws : List ℕ) (p : ℕ) (s : TreeSections) (rest : List ℕ)
   pub targets_are : s.targets ≡ take (length s.targets) (drop (p + length s.offsets + 2) ws)
   pub follows : rest ≡ drop (p + length s.offsets + length s.targets + 4) ws
 
-abbrev sections_of : List ℕ → List ℕ → ℕ → TreeSections
-sections_of os ts root = record { offsets = os; targets = ts; root = root }
-
-never : {C : Type 0} {s : TreeSections} {rest : List ℕ} → bad_tree ≡ tree s rest → C
-never e = let z : ◌≡◌ {A = ℕ} 0 1 = cc in absurd (omega arith)
-
--- each section of a tree that was read is whole, and the root section is one number
-root_read : (os ts : List ℕ) (a : Section) (s : TreeSections) (rest : List ℕ) → with_root os ts a ≡ tree s rest
-    → (root : ℕ) × (a ≡ part (root ∷ []) rest) × (sections_of os ts root ≡ s)
-root_read os ts cut s rest e = never e
-root_read os ts (part [] ws) s rest e = never e
-root_read os ts (part (root ∷ []) ws) s rest e = (root, cc, cc)
-root_read os ts (part (root ∷ x ∷ l) ws) s rest e = never e
-
-targets_read : (os : List ℕ) (a : Section) (s : TreeSections) (rest : List ℕ) → with_targets os a ≡ tree s rest
-    → (ts : List ℕ) × (ws : List ℕ) × (a ≡ part ts ws) × (with_root os ts (section max_roots ws) ≡ tree s rest)
-targets_read os cut s rest e = never e
-targets_read os (part ts ws) s rest e = (ts, ws, refl, e)
-
-offsets_read : (a : Section) (s : TreeSections) (rest : List ℕ) → with_offsets a ≡ tree s rest
-    → (os : List ℕ) × (ws : List ℕ) × (a ≡ part os ws) × (with_targets os (section max_file_targets ws) ≡ tree s rest)
-offsets_read cut s rest e = never e
-offsets_read (part os ws) s rest e = (os, ws, refl, e)
+-- behind p numbers
+dropped : (p k : ℕ) (ws l : List ℕ) → drop p ws ≡ l → drop (p + k) ws ≡ drop k l
+dropped p k ws l e = sym (drop-drop k p ws) ∙ ap (drop k) e
 
 -- a tree that was read has its place
 pub tree_at : (ws : List ℕ) (p : ℕ) (s : TreeSections) (rest : List ℕ) → read_tree (drop p ws) ≡ tree s rest → TreeAt ws p s rest
 tree_at ws p s rest e =
-    let one = offsets_read (section max_offsets (drop p ws)) s rest e in
-    let os : List ℕ = one.0 in
-    let first = section-part max_offsets ws p os one.1 one.2 in
-    let two = targets_read os (section max_file_targets one.1) s rest one.3 in
-    let ts : List ℕ = two.0 in
-    let q : ℕ = p + 1 + length os in
-    let second = section-part max_file_targets ws q ts two.1 (ap (section max_file_targets) (sym first.follows) ∙ two.2) in
-    let three = root_read os ts (section max_roots two.1) s rest two.3 in
-    let r : ℕ = q + 1 + length ts in
-    let third = section-part max_roots ws r (three.0 ∷ []) rest (ap (section max_roots) (sym second.follows) ∙ three.1) in
-    let e₁ : q + 1 ≡ p + length os + 2 = omega arith in
-    let e₂ : r + 1 + 1 ≡ p + length os + length ts + 4 = omega arith in
-    subst (λ (x : TreeSections). TreeAt ws p x rest) three.2
-    (record {
-      few_offsets = first.few;
-      few_targets = second.few;
-      within = omega (arith, third.within);
-      offsets_are = first.numbers;
-      targets_are = second.numbers ∙ ap (λ (k : ℕ). take (length ts) (drop k ws)) e₁;
-      follows = third.follows ∙ ap (λ (k : ℕ). drop k ws) e₂;
-    })
+    let t = tree_is (drop p ws) (section max_offsets (drop p ws)) refl s rest e in
+    let os = s.offsets in
+    let ts = s.targets in
+    let behind : List ℕ = counted (s.root ∷ []) ++ rest in
+    let first : drop (p + 1) ws ≡ os ++ (counted ts ++ behind) = dropped p 1 ws _ t.0 in
+    let q : p + 1 + length os + 1 ≡ p + length os + 2 = omega arith in
+    let r : p + length os + 2 + length ts + 2 ≡ p + length os + length ts + 4 = omega arith in
+    let second : drop (p + length os + 2) ws ≡ ts ++ behind =
+    ap (λ (k : ℕ). drop k ws) (sym q)
+    ∙ dropped (p + 1 + length os) 1 ws (counted ts ++ behind) (dropped (p + 1) (length os) ws _ first ∙ drop-append_seam os (counted ts ++ behind)) in
+    let third : drop (p + length os + length ts + 4) ws ≡ rest =
+    ap (λ (k : ℕ). drop k ws) (sym r)
+    ∙ dropped (p + length os + 2 + length ts) 2 ws behind (dropped (p + length os + 2) (length ts) ws _ second ∙ drop-append_seam ts behind) in
+    let there = ap length second ∙ length-append ts behind in
+    let left = length-drop (p + length os + 2) ws in
+    record {
+      few_offsets = t.1;
+      few_targets = t.2;
+      within = omega arith;
+      offsets_are = sym (ap (take (length os)) first ∙ take-append_seam os (counted ts ++ behind));
+      targets_are = sym (ap (take (length ts)) second ∙ take-append_seam ts behind);
+      follows = sym third;
+    }
 
--- a whole section lies within the numbers
-pub count_within : (most : ℕ) (ws : List ℕ) (p c : ℕ) → count_of (section most (drop p ws)) ≡ Count c → p + c + 1 ≤ length ws
-count_within most ws p c e =
-    let found = found_part (section most (drop p ws)) c e in
-    let s = section-part most ws p found.0 found.1 found.2 in
-    omega (arith, s.within, found.3)
-
-module _ (ws : List ℕ) (p : ℕ) where
-  -- the offsets are cut off
-  pub first_cut : count_of (section max_offsets (drop p ws)) ≡ Cut → BadTree ≡ tree_found ws (read_tree (drop p ws))
-  first_cut e = sym (ap (λ (a : Section). tree_found ws (with_offsets a)) (found_cut (section max_offsets (drop p ws)) e))
-
-  module _ (o : ℕ) (first : count_of (section max_offsets (drop p ws)) ≡ Count o) where
-    -- o offsets; the targets decide
-    offsets_whole : (os : List ℕ) × (length os ≡ o) × (read_tree (drop p ws) ≡ with_targets os (section max_file_targets (drop (p + o + 1) ws)))
-    offsets_whole =
-        let found = found_part (section max_offsets (drop p ws)) o first in
-        let os : List ℕ = found.0 in
-        let s = section-part max_offsets ws p os found.1 found.2 in
-        let n : p + 1 + length os ≡ p + o + 1 = omega (arith, found.3) in
-        let rest : found.1 ≡ drop (p + o + 1) ws = s.follows ∙ ap (λ (k : ℕ). drop k ws) n in
-        (os, found.3, ap with_offsets found.2 ∙ ap (λ (l : List ℕ). with_targets os (section max_file_targets l)) rest)
-
-    -- the targets are cut off
-    pub second_cut : count_of (section max_file_targets (drop (p + o + 1) ws)) ≡ Cut → BadTree ≡ tree_found ws (read_tree (drop p ws))
-    second_cut e =
-        let whole = offsets_whole in
-        sym (ap (tree_found ws) (whole.2 ∙ ap (with_targets whole.0) (found_cut (section max_file_targets (drop (p + o + 1) ws)) e)))
-
-    -- t targets; the root decides
-    pub both_whole : (t : ℕ) (r : TreeFound) → count_of (section max_file_targets (drop (p + o + 1) ws)) ≡ Count t → Rooted ws (p + o + t + 2) o t r
-        → r ≡ tree_found ws (read_tree (drop p ws))
-    both_whole t r e rooted =
-        let whole = offsets_whole in
-        let os : List ℕ = whole.0 in
-        let found = found_part (section max_file_targets (drop (p + o + 1) ws)) t e in
-        let ts : List ℕ = found.0 in
-        let s = section-part max_file_targets ws (p + o + 1) ts found.1 found.2 in
-        let n : p + o + 1 + 1 + length ts ≡ p + o + t + 2 = omega (arith, found.3) in
-        let rest : found.1 ≡ drop (p + o + t + 2) ws = s.follows ∙ ap (λ (k : ℕ). drop k ws) n in
-        rooted os ts whole.1 found.3
-        ∙ sym (ap (tree_found ws) (whole.2 ∙ ap (with_targets os) found.2 ∙ ap (λ (l : List ℕ). with_root os ts (section max_roots l)) rest))
-
-  -- the root section is cut off, has another count, or is one number
-  pub root_cut : (o t : ℕ) → count_of (section max_roots (drop p ws)) ≡ Cut → Rooted ws p o t BadTree
-  root_cut o t e os ts eo et = sym (ap (λ (a : Section). tree_found ws (with_root os ts a)) (found_cut (section max_roots (drop p ws)) e))
-
-  pub root_other : (o t c : ℕ) → count_of (section max_roots (drop p ws)) ≡ Count c → (c ≡ 1 → ⊥) → Rooted ws p o t BadTree
-  root_other o t c e ne os ts eo et =
-      let found = found_part (section max_roots (drop p ws)) c e in
-      let wrong = other found.0 found.1 (λ one. ne (sym found.3 ∙ one)) in
-      sym (ap (λ (a : Section). tree_found ws (with_root os ts a)) found.2 ∙ ap (tree_found ws) wrong)
-    where
-      other : (l rest : List ℕ) → (length l ≡ 1 → ⊥) → with_root os ts (part l rest) ≡ bad_tree
-      other [] rest h = refl
-      other (x ∷ []) rest h = absurd (h refl)
-      other (x ∷ y ∷ l) rest h = refl
-
-  pub root-one : (o t c root : ℕ) → count_of (section max_roots (drop p ws)) ≡ Count c → c ≡ 1 → root ≡ at ws (p + 1)
-      → Rooted ws p o t (Sections o t root (p + 2))
-  root-one o t c root e one is os ts eo et =
-      let found = found_part (section max_roots (drop p ws)) c e in
-      let s = section-part max_roots ws p found.0 found.1 found.2 in
-      sym (ap (λ (a : Section). tree_found ws (with_root os ts a)) found.2 ∙ alone found.0 found.1 (found.3 ∙ one) s)
-    where
-      same : (a b d : ℕ) → length os ≡ a → length ts ≡ b → d ≡ p + 2 → (x : ℕ) → x ≡ root
-          → Sections (length os) (length ts) x d ≡ Sections a b root (p + 2)
-      same a b d ea eb ed x ex = cc
-
-      alone : (l rest : List ℕ) → length l ≡ 1 → Part max_roots ws p l rest → tree_found ws (with_root os ts (part l rest)) ≡ Sections o t root (p + 2)
-      alone [] rest h s = absurd (omega arith)
-      alone (x ∷ y ∷ l) rest h s = absurd (omega arith)
-      alone (x ∷ []) rest h s =
-          let there = s.within in
-          let gone = ap length s.follows ∙ length-drop (p + 1 + 1) ws in
-          let zeroth : p + 1 + 0 ≡ p + 1 = omega arith in
-          let entry : x ≡ at ws (p + 1) =
-          ap (λ (l : List ℕ). at l 0) s.numbers ∙ get_or-take 1 (drop (p + 1) ws) 0 0 (omega arith) ∙ get_or-drop (p + 1) ws 0 0 ∙ ap (at ws) zeroth in
-          same o t (length ws - length rest) eo et (omega arith) x (entry ∙ sym is)
-
--- what was found is a tree, and the place behind it
-pub found_tree : (ws : List ℕ) (r : TreeRead) (o t root next : ℕ) → read_tree ws ≡ r → tree_found ws r ≡ Sections o t root next
-    → (s : TreeSections) × (read_tree ws ≡ tree s (drop next ws)) × (length s.offsets ≡ o) × (length s.targets ≡ t) × (s.root ≡ root)
-found_tree ws bad_tree o t root next is e = let z : ◌≡◌ {A = ℕ} 0 1 = cc in absurd (omega arith)
-found_tree ws (tree s rest) o t root next is e =
-    let place = tree_at ws 0 s rest is in
-    let n : length ws - length rest ≡ next = cc in
-    let gone = ap length place.follows ∙ length-drop (0 + length s.offsets + length s.targets + 4) ws in
-    let k : 0 + length s.offsets + length s.targets + 4 ≡ next = omega (arith, place.within) in
-    (s, is ∙ ap (tree s) (place.follows ∙ ap (λ (i : ℕ). drop i ws) k), cc, cc, cc)
-
-pub found_bad : (ws : List ℕ) (r : TreeRead) → tree_found ws r ≡ BadTree → r ≡ bad_tree
-found_bad ws bad_tree e = refl
-found_bad ws (tree s rest) e = let z : ◌≡◌ {A = ℕ} 0 1 = cc in absurd (omega arith)
+-- a root section is one number
+pub root_alone : (ws l rest : List ℕ) (root : ℕ) → part (root ∷ l) rest ≡ section max_roots ws → l ≡ []
+unfolding max_roots
+root_alone ws [] rest root e = refl
+root_alone ws (x ∷ l) rest root e = absurd (let few = (section_is max_roots ws (root ∷ x ∷ l) rest (sym e)).1 in omega arith)

@@ -1,6 +1,7 @@
 -- 01, "The program `treepaths`": what a well-formed file is, and what it means.
 use Rattle.std.specs.Prelude.{ℕ, zero, suc, ◌+◌, ◌*◌, ◌/◌, ◌%◌, Bool, true, List, [], ◌∷◌, eqb, leb, length, take, drop}
 use Rattle.answers.specs.Choice.{pick, both}
+use Rattle.treefile.specs.declared.query.Query.{Query}
 
 -- "more than 1,025 offsets, 2,048 targets or 64 queries" is a BadFile: the program's own limits
 unfoldable pub max_offsets : ℕ
@@ -15,13 +16,6 @@ max_queries = 64
 -- "another root count" than 1 is one too: the most numbers of a root section
 unfoldable pub max_roots : ℕ
 max_roots = 1
-
--- "queries of four numbers: kind, a, b, c"
-pub record Query : Type 0 where
-  pub kind : ℕ
-  pub a : ℕ
-  pub b : ℕ
-  pub c : ℕ
 
 -- a tree as a file has it: "offsets; targets; the root"
 pub record TreeSections : Type 0 where

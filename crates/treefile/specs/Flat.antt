@@ -1,20 +1,20 @@
 -- What a writer reads of a lent flat list, and the parts of the report that it writes at once.
-use Rattle.std.specs.Prelude.{ℕ, ◌*◌, ◌^◌, ◌≤◌, ◌<◌, ◌≡◌, List, [], ◌∷◌, ◌++◌, length}
+use Rattle.std.specs.Prelude.{ℕ, ◌*◌, ◌^◌, ◌≤◌, ◌<◌, ◌≡◌, List, [], ◌∷◌, ◌++◌, length, Ok, Err}
 use Rattle.tables.specs.Tables.{Six}
 use Rattle.ranges.specs.Flat.{stride, ranges_in}
 use Rattle.ranges.specs.Calls.{Answered, refused, listed, ranges_of}
 use Rattle.ranges.specs.declared.kinds.PathRange.{PathRange}
 use Rattle.ranges.specs.declared.kinds.Kind.{Kind}
-use Rattle.answers.specs.declared.answer.Listed.{Listed}
-use Rattle.answers.specs.declared.answer.Listed.TheVariants.{Count, Refused}
 use Rattle.treefile.specs.Report.{decimal, space, list_text}
 use Rattle.treefile.specs.Sizes.{file_ranges, range_digits}
+use Rattle.treefile.specs.declared.page.Page.{Page}
 use Rattle.treefile.specs.Writing.{Room}
+use Rattle.answers.specs.Answers.{Listed}
 
 -- what an answer and the list that was left say together
 abbrev pub answered_in : Listed → List ℕ → Answered
-answered_in (Refused x) l = refused x
-answered_in (Count k) l = listed (ranges_in k l)
+answered_in (Err x) l = refused x
+answered_in (Ok k) l = listed (ranges_in k l)
 
 -- the text of an answer with the list that was left
 abbrev pub listed_text : Listed → List ℕ → List ℕ
@@ -22,8 +22,8 @@ listed_text a l = list_text (answered_in a l)
 
 -- how many numbers of the list an answer speaks of
 abbrev pub spoken_of : Listed → ℕ
-spoken_of (Refused x) = 0
-spoken_of (Count k) = stride * k
+spoken_of (Err x) = 0
+spoken_of (Ok k) = stride * k
 
 -- how many numbers an answer takes in a flat list
 abbrev pub taken_by : Answered → ℕ
@@ -31,9 +31,9 @@ taken_by (refused x) = 0
 taken_by (listed l) = stride * length l
 
 -- the list holds the ranges of the answer, and their text fits
-pub record ListRoom (a : Listed) (l : List ℕ) (at : ℕ) (out : List ℕ) : Type 0 where
+pub record ListRoom (a : Listed) (l : List ℕ) (page : Page) : Type 0 where
   pub whole : spoken_of a ≤ length l
-  pub room : Room (listed_text a l) at out
+  pub room : Room (listed_text a l) page
 
 -- the numbers of every range are below m
 abbrev pub Low : ℕ → List PathRange → Type 0

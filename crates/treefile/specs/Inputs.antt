@@ -1,7 +1,8 @@
 -- 01, "The program `treepaths`": which inputs are no BadFile, said of what they hold and not of how they are read. "BadFile .. : input ends early or
 -- has bytes left, more than 1,025 offsets, 2,048 targets or 64 queries, another root count, another kind, or an unused number not 0."
 use Rattle.std.specs.Prelude.{ℕ, ◌%◌, ◌≤◌, ◌≡◌, ◌≢◌, List, [], ◌∷◌, ◌++◌, length}
-use Rattle.treefile.specs.File.{Query, TreeFile, max_offsets, max_file_targets, max_queries, numbers, narrow}
+use Rattle.treefile.specs.declared.query.Query.{Query}
+use Rattle.treefile.specs.File.{TreeFile, max_offsets, max_file_targets, max_queries, numbers, narrow}
 use Rattle.treefile.specs.Parsing.{query_numbers}
 
 -- "each after its count"

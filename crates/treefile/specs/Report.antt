@@ -2,16 +2,16 @@
 use Rattle.std.specs.Prelude.{ℕ, zero, suc, ◌+◌, ◌-◌, ◌/◌, ◌%◌, true, false, List, [], ◌∷◌, ◌++◌, eqb, ltb, length}
 use Rattle.tables.specs.Tables.{Six}
 use Rattle.answers.specs.Choice.{pick}
-use Rattle.answers.specs.Answers.{refusal_code, answer_code, answer_values}
+use Rattle.answers.specs.Answers.{refusal_code, answer_code, answer_values, Answer}
 use Rattle.queries.specs.Queries.{distance, lca, kth_ancestor, jump, subtree_size}
-use Rattle.answers.specs.declared.answer.Answer.{Answer}
 use Rattle.ranges.specs.Calls.{Answered, refused, listed, ranges_of}
 use Rattle.ranges.specs.declared.kinds.Direction.{Direction}
 use Rattle.ranges.specs.declared.kinds.Direction.TheVariants.{Forward, Reversed}
 use Rattle.ranges.specs.declared.kinds.PathRange.{PathRange}
 use Rattle.ranges.specs.declared.kinds.Kind.TheVariants.{Vertices, Edges, Both}
 use Rattle.treefile.specs.Sizes.{most_digits}
-use Rattle.treefile.specs.File.{Query, TreeFile, Parsed, bad_file, file}
+use Rattle.treefile.specs.declared.query.Query.{Query}
+use Rattle.treefile.specs.File.{TreeFile, Parsed, bad_file, file}
 
 -- a number in decimal, in at most the given number of digits
 unfoldable pub digits_in : ℕ → ℕ → List ℕ
@@ -77,8 +77,11 @@ abbrev pub tree_word : List ℕ
 tree_word = 116 ∷ 114 ∷ 101 ∷ 101 ∷ 32 ∷ []
 
 -- "A refused tree prints `tree` and its code"; "Else the first line is `tree`, code, n, root"
+abbrev pub built_text : (code n root : ℕ) → List ℕ
+built_text code n root = pick (eqb code 0) (fields (0 ∷ n ∷ root ∷ [])) (decimal code)
+
 abbrev pub tree_line : (code n root : ℕ) → List ℕ
-tree_line code n root = tree_word ++ (pick (eqb code 0) (fields (0 ∷ n ∷ root ∷ [])) (decimal code) ++ newline)
+tree_line code n root = tree_word ++ (built_text code n root ++ newline)
 
 -- the report of a file whose tree got this code and, where it is 0, these tables
 abbrev pub file_report : ℕ → Six → TreeFile → List ℕ

@@ -1,18 +1,21 @@
--- What the inner functions of the parser answer: a number of the file, a section's count, a tree's sections, and whether all queries are good.
-use Rattle.std.specs.Prelude.{ℕ, ◌+◌, ◌-◌, ◌^◌, ◌≤◌, ◌<◌, ◌≡◌, Bool, true, false, List, ◌++◌, length, take, drop}
+-- What the inner functions of the parser answer: the numbers of the file, a section, a tree's sections, and the queries.
+use Rattle.std.specs.Prelude.{ℕ, ◌+◌, ◌^◌, ◌≤◌, ◌<◌, ◌≡◌, Bool, true, false, List, [], ◌∷◌, length, take, drop, Option, None, Some}
 use Rattle.sums.specs.Sum.{at}
 use Rattle.treefile.specs.declared.words.Width.{Width}
 use Rattle.treefile.specs.declared.words.Width.TheVariants.{Narrow, Wide}
-use Rattle.treefile.specs.declared.judge.Found.{Found}
-use Rattle.treefile.specs.declared.judge.Found.TheVariants.{Count, Cut}
-use Rattle.treefile.specs.declared.judge.TreeFound.{TreeFound}
-use Rattle.treefile.specs.declared.judge.TreeFound.TheVariants.{Sections, BadTree}
-use Rattle.treefile.specs.File.{Query, little_endian, numbers, narrow, Section, cut, part, section, TreeRead, bad_tree, tree, with_root, max_roots, Queries, bad, all, max_queries}
+use Rattle.treefile.specs.declared.words.Words.{Words}
+use Rattle.treefile.specs.declared.judge.Sections.{Sections}
+use Rattle.treefile.specs.declared.query.Query.{Query}
+use Rattle.treefile.specs.File.{little_endian, numbers, narrow, Section, cut, part, TreeRead, bad_tree, tree, Queries, bad, all, Parsed, bad_file, file}
 
 -- the bytes of a number of each width
 abbrev pub bytes_in : Width → ℕ
 bytes_in Narrow = narrow
 bytes_in Wide = 4
+
+-- the numbers that bytes of a width hold
+abbrev pub words_in : Words → List ℕ
+words_in w = numbers (bytes_in w.width) w.bytes.now
 
 -- r is what so many bytes from index at on say
 pub record Little (width : ℕ) (bytes : List ℕ) (at r : ℕ) : Type 0 where
@@ -24,18 +27,20 @@ pub record Number (width : ℕ) (bytes : List ℕ) (i r : ℕ) : Type 0 where
   pub value : r ≡ at (numbers width bytes) i
   pub small : r < 256 ^ width
 
-abbrev pub count_of : Section → Found
-count_of cut = Cut
-count_of (part l rest) = Count (length l)
+-- the numbers that a first one and the rest are
+abbrev pub first_in : Option (ℕ × Words) → List ℕ
+first_in None = []
+first_in (Some (x, rest)) = x ∷ words_in rest
 
--- the counts of a tree's sections, its root, and the place behind them, of all numbers ws
-abbrev pub tree_found : List ℕ → TreeRead → TreeFound
-tree_found ws bad_tree = BadTree
-tree_found ws (tree s rest) = Sections (length s.offsets) (length s.targets) s.root (length ws - length rest)
+-- what was read: a section and what follows it
+abbrev pub section_in : Option (Words × Words) → Section
+section_in None = cut
+section_in (Some (l, rest)) = part (words_in l) (words_in rest)
 
--- what the root section at place p says behind o offsets and t targets
-abbrev pub Rooted : List ℕ → ℕ → ℕ → ℕ → TreeFound → Type 0
-Rooted ws p o t r = (os ts : List ℕ) → length os ≡ o → length ts ≡ t → r ≡ tree_found ws (with_root os ts (section max_roots (drop p ws)))
+-- a tree's sections and what follows them
+abbrev pub tree_in : Option Sections → TreeRead
+tree_in None = bad_tree
+tree_in (Some s) = tree (record { offsets = words_in s.offsets; targets = words_in s.targets; root = s.root }) (words_in s.rest)
 
 -- the four numbers from place p on
 abbrev pub query_at : List ℕ → ℕ → Query
@@ -45,31 +50,25 @@ abbrev pub is_all : Queries → Bool
 is_all bad = false
 is_all (all qs) = true
 
--- how many queries there are, where all are good
-abbrev pub query_count : Queries → Found
-query_count bad = Cut
-query_count (all qs) = Count (length qs)
+-- the queries that numbers are, four to a query
+abbrev pub queries_from : List ℕ → List Query
+queries_from [] = []
+queries_from (x ∷ []) = []
+queries_from (x ∷ y ∷ []) = []
+queries_from (x ∷ y ∷ z ∷ []) = []
+queries_from (x ∷ y ∷ z ∷ w ∷ ws) = record { kind = x; a = y; b = z; c = w } ∷ queries_from ws
 
--- a place of the file, and a number of queries within its limit
-pub record Asks (ws : List ℕ) (p count : ℕ) : Type 0 where
-  pub within : p ≤ length ws
-  pub few : count ≤ max_queries
+-- the queries of a section that is good
+abbrev pub asked_in : Option Words → Queries
+asked_in None = bad
+asked_in (Some w) = all (queries_from (words_in w))
 
--- n numbers from place p on are there, and room for them
-pub record Copies (ws : List ℕ) (p n : ℕ) (out : List ℕ) : Type 0 where
-  pub there : p + n ≤ length ws
-  pub room : n ≤ length out
+-- the whole file
+abbrev pub parsed_in : Option (Sections × Words) → Parsed
+parsed_in None = bad_file
+parsed_in (Some (s, w)) =
+    file (record { tree = record { offsets = words_in s.offsets; targets = words_in s.targets; root = s.root }; queries = queries_from (words_in w) })
 
--- the n numbers from place p on stand at the front of out, in place of as many
-abbrev pub copied : List ℕ → ℕ → ℕ → List ℕ → List ℕ
-copied ws p n out = take n (drop p ws) ++ drop n out
-
--- o offsets and t targets of the tree at place p are there, and room for them
-pub record TreeCopies (ws : List ℕ) (p o t : ℕ) (os ts : List ℕ) : Type 0 where
-  pub offsets : Copies ws (p + 1) o os
-  pub targets : Copies ws (p + o + 2) t ts
-
--- and they were copied
-pub record TreeCopied (ws : List ℕ) (p o t : ℕ) (os ts os' ts' : List ℕ) : Type 0 where
-  pub offsets : os' ≡ copied ws (p + 1) o os
-  pub targets : ts' ≡ copied ws (p + o + 2) t ts
+-- there is room for these numbers
+abbrev pub Fits : List ℕ → List ℕ → Type 0
+Fits l out = length l ≤ length out

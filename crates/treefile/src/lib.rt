@@ -4,6 +4,7 @@
 pub mod judge;
 pub mod lines;
 pub mod listing;
-pub mod numbers;
+pub mod page;
 pub mod parse;
+pub mod query;
 pub mod words;

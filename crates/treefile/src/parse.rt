@@ -1,64 +1,67 @@
 // A file's offsets, targets and queries, copied to the program's buffers.
-ghost use Rattle.treefile.specs.File.{numbers, narrow};
+ghost use Rattle.std.specs.Prelude.{◌≡◌};
+ghost use Rattle.paths.specs.Lists.{front};
+ghost use Rattle.treefile.specs.File.{narrow};
 ghost use Rattle.treefile.specs.Parsing.{Buffers, Parses};
-ghost use Rattle.treefile.specs.Sections.{bytes_in, TreeCopies, TreeCopied};
+ghost use Rattle.treefile.specs.Sections.{bytes_in, words_in, Fits};
 
-use crate::judge::Shape;
-use crate::words::Width;
-use crate::{judge, words};
+use crate::judge::{Sections, judge};
+use crate::query::{Query, query_count, read_queries};
+use crate::words::{Width, Words};
 
-// Copies the o offsets and the t targets of the tree at place p, which may stand anywhere in the input.
-pub fn copy_tree(
-    bytes: &[u8],
-    width: Width,
-    p: usize,
-    o: usize,
-    t: usize,
-    offsets: &mut [u32],
-    targets: &mut [u32],
-)
-    requires { TreeCopies (numbers (bytes_in width) bytes.now) p o t offsets.old targets.old }
-    ensures { TreeCopied (numbers (bytes_in width) bytes.now) p o t offsets.old targets.old offsets.new targets.new }
-{
-    words::copy_numbers(bytes, width, p + 1, o, offsets);
-    words::copy_numbers(bytes, width, p + o + 2, t, targets);
+// How many offsets, targets and queries a file has, and its root.
+#[derive(Clone, Copy)]
+pub struct Shape {
+    pub offsets: usize,
+    pub targets: usize,
+    pub root: usize,
+    pub queries: usize,
 }
 
-// Judges the bytes by numbers of this width, and copies only what is well-formed: a bad file leaves the buffers as they were. The queries are the
-// last numbers.
+// Copies the offsets and the targets of a tree, which may stand anywhere in the input.
+pub fn copy_tree(tree: Sections, offsets: &mut [u32], targets: &mut [u32])
+    requires { Fits (words_in tree.offsets) offsets.old × Fits (words_in tree.targets) targets.old }
+    ensures offsets { offsets.new ≡ front (words_in tree.entry.offsets) offsets.old }
+    ensures targets { targets.new ≡ front (words_in tree.entry.targets) targets.old }
+{
+    tree.offsets.copy_to(offsets);
+    tree.targets.copy_to(targets);
+}
+
+// Judges the numbers, and copies only what is well-formed: a bad file leaves the buffers as they were.
 pub fn parse_as(
-    bytes: &[u8],
-    width: Width,
+    words: Words,
     offsets: &mut [u32],
     targets: &mut [u32],
-    queries: &mut [u32],
-) -> Shape
+    queries: &mut [Query],
+) -> Option<Shape>
     requires { Buffers offsets.old targets.old queries.old }
-    ensures { Parses (bytes_in width) bytes.now offsets.old targets.old queries.old offsets.new targets.new queries.new result }
+    ensures { Parses (bytes_in words.entry.width) words.entry.bytes.now offsets.old targets.old queries.old offsets.new targets.new queries.new result }
 {
-    let shape = judge::judge(bytes, width);
-    if !shape.good {
-        return shape;
-    }
-    copy_tree(
-        bytes,
-        width,
-        0,
-        shape.offsets,
-        shape.targets,
-        offsets,
-        targets,
-    );
-    let asked = 4 * shape.queries;
-    let first = words::count(bytes, width) - asked;
-    words::copy_numbers(bytes, width, first, asked, queries);
-    shape
+    let (tree, asked) = judge(words)?;
+    copy_tree(tree, offsets, targets);
+    read_queries(asked, queries);
+    Some(Shape {
+        offsets: tree.offsets.count(),
+        targets: tree.targets.count(),
+        root: tree.root,
+        queries: query_count(asked),
+    })
 }
 
 // A file of the program has narrow numbers.
-pub fn parse(bytes: &[u8], offsets: &mut [u32], targets: &mut [u32], queries: &mut [u32]) -> Shape
+pub fn parse(
+    bytes: &[u8],
+    offsets: &mut [u32],
+    targets: &mut [u32],
+    queries: &mut [Query],
+) -> Option<Shape>
     requires { Buffers offsets.old targets.old queries.old }
     ensures { Parses narrow bytes.now offsets.old targets.old queries.old offsets.new targets.new queries.new result }
 {
-    parse_as(bytes, Width::Narrow, offsets, targets, queries)
+    let words = Words {
+        bytes,
+        width: Width::Narrow,
+    };
+    parse_as(words, offsets, targets, queries)
 }

@@ -1,61 +1,101 @@
 // The numbers of a file, of two or of four bytes each.
-ghost use Rattle.std.specs.Prelude.{◌≡◌, ◌+◌, ◌≤◌, ◌<◌, length};
-ghost use Rattle.treefile.specs.File.{numbers};
-ghost use Rattle.treefile.specs.Sections.{bytes_in, Little, Number, Copies, copied};
+ghost use Rattle.std.specs.Prelude.{◌≡◌, ◌+◌, ◌≤◌, ◌<◌, length, take, drop};
+ghost use Rattle.paths.specs.Lists.{front};
+ghost use Rattle.treefile.specs.Sections.{bytes_in, words_in, first_in, Little, Number};
 
-// How wide the numbers are: 16 bits or 32.
+// How wide the numbers are, in bytes: 16 bits or 32.
 #[derive(Clone, Copy)]
 pub enum Width {
-    Narrow,
-    Wide,
+    Narrow = 2,
+    Wide = 4,
 }
 
-// The bytes of one number.
-pub(crate) fn bytes_in(width: Width) -> usize
-    ensures { result ≡ bytes_in width }
-{
-    match width {
-        Width::Narrow => 2,
-        Width::Wide => 4,
+impl Width {
+    // The bytes of one number.
+    pub(crate) fn bytes(self) -> usize
+        ensures { result ≡ bytes_in self }
+    {
+        self as usize
     }
 }
 
-// How many whole numbers there are.
-pub fn count(bytes: &[u8], width: Width) -> usize
-    ensures { result ≡ length (numbers (bytes_in width) bytes.now) }
-{
-    bytes.len() / bytes_in(width)
+// Numbers as the bytes that hold them; bytes behind the last whole number are no number.
+#[derive(Clone, Copy)]
+pub struct Words<'a> {
+    pub bytes: &'a [u8],
+    pub width: Width,
 }
 
-// The 16-bit number from index at on, its low byte first.
-fn pair(bytes: &[u8], at: usize) -> usize
+// The 16-bit number from index at on.
+fn narrow_at(bytes: &[u8], at: usize) -> usize
     requires { at + 2 ≤ length bytes.now }
     ensures { Little 2 bytes.now at result }
 {
-    let low = bytes[at] as usize;
-    let high = bytes[at + 1] as usize;
-    low + 256 * high
+    u16::from_le_bytes([bytes[at], bytes[at + 1]]) as usize
 }
 
-// The number at place i. Nothing else of the parser knows how wide a number is.
-pub fn number(bytes: &[u8], width: Width, i: usize) -> usize
-    requires { i < length (numbers (bytes_in width) bytes.now) }
-    ensures { Number (bytes_in width) bytes.now i result }
+// The 32-bit number from index at on.
+fn wide_at(bytes: &[u8], at: usize) -> usize
+    requires { at + 4 ≤ length bytes.now }
+    ensures { Little 4 bytes.now at result }
 {
-    match width {
-        Width::Narrow => pair(bytes, 2 * i),
-        Width::Wide => pair(bytes, 4 * i) + 65_536 * pair(bytes, 4 * i + 2),
+    u32::from_le_bytes([bytes[at], bytes[at + 1], bytes[at + 2], bytes[at + 3]]) as usize
+}
+
+impl<'a> Words<'a> {
+    // How many whole numbers there are.
+    pub fn count(self) -> usize
+        ensures { result ≡ length (words_in self.entry) }
+    {
+        self.bytes.len() / self.width.bytes()
     }
-}
 
-// Copies n numbers from place p on to the front of out.
-pub fn copy_numbers(bytes: &[u8], width: Width, p: usize, n: usize, out: &mut [u32])
-    requires { Copies (numbers (bytes_in width) bytes.now) p n out.old }
-    ensures { out.new ≡ copied (numbers (bytes_in width) bytes.now) p n out.old }
-{
-    let mut i: usize = 0;
-    while i < n {
-        out[i] = number(bytes, width, p + i) as u32;
-        i += 1;
+    // The number at place i, its low byte first. Nothing else of the parser reads a byte.
+    pub fn number(self, i: usize) -> usize
+        requires { i < length (words_in self) }
+        ensures { Number (bytes_in self.entry.width) self.entry.bytes.now i result }
+    {
+        match self.width {
+            Width::Narrow => narrow_at(self.bytes, 2 * i),
+            Width::Wide => wide_at(self.bytes, 4 * i),
+        }
+    }
+
+    // The first n numbers, and those behind them.
+    pub fn split_at(self, n: usize) -> (Words<'a>, Words<'a>)
+        requires { n ≤ length (words_in self) }
+        ensures front { words_in result.0 ≡ take n (words_in self.entry) }
+        ensures back { words_in result.1 ≡ drop n (words_in self.entry) }
+    {
+        let width = self.width;
+        let (front, back) = self.bytes.split_at(n * width.bytes());
+        (
+            Words {
+                bytes: front,
+                width,
+            },
+            Words { bytes: back, width },
+        )
+    }
+
+    // The first number, and those behind it.
+    pub fn split_first(self) -> Option<(usize, Words<'a>)>
+        ensures { first_in result ≡ words_in self.entry }
+    {
+        if self.count() == 0 {
+            return None;
+        }
+        let (_, rest) = self.split_at(1);
+        Some((self.number(0), rest))
+    }
+
+    // Copies all numbers to the front of out.
+    pub fn copy_to(self, out: &mut [u32])
+        requires { length (words_in self) ≤ length out.old }
+        ensures { out.new ≡ front (words_in self.entry) out.old }
+    {
+        for i in 0..self.count() {
+            out[i] = self.number(i) as u32;
+        }
     }
 }

@@ -5,11 +5,9 @@
 // that cannot be said either.
 #![tactic(auto)]
 
-ghost use Rattle.std.specs.Prelude.{length};
-ghost use Rattle.treepaths.specs.Input.{InputIn};
-
+use sample::read_full;
 use std::io;
-use std::io::{Print, Read};
+use std::io::Print;
 use treereport::report::{REPORT_ROOM, report};
 
 // One byte more than the largest well-formed file: 1,025 offsets, 2,048 targets, the root and 64 queries, with the four counts, are 3,334 numbers
@@ -17,33 +15,9 @@ use treereport::report::{REPORT_ROOM, report};
 // (law `long_bad` of treereport).
 const MAX_INPUT: usize = 6_669;
 
-// What was read.
-#[derive(Clone, Copy)]
-pub enum Input {
-    Bytes(usize),
-    Failed,
-}
-
-// Reads to the end of the input or of the buffer. A short read is no end, since a pipe hands over what it has; a read of no bytes is.
-fn read_input<R: Read>(reader: &mut R, buffer: &mut [u8]) -> Input
-    ensures { InputIn (length buffer.new) result }
-{
-    let mut count: usize = 0;
-    while count < buffer.len() {
-        let Ok(more) = reader.read(&mut buffer[count..]) else {
-            return Input::Failed;
-        };
-        if more == 0 {
-            return Input::Bytes(count);
-        }
-        count += more;
-    }
-    Input::Bytes(count)
-}
-
 fn main(rt: HostRuntime) -> io::Result<()> {
     let mut input = [0u8; MAX_INPUT];
-    let Input::Bytes(count) = read_input(&mut rt.stdin(), &mut input) else {
+    let Ok(count) = read_full(&mut rt.stdin(), &mut input) else {
         return rt
             .stderr()
             .write_all(b"treepaths: cannot read standard input\n");

@@ -27,11 +27,12 @@ use Rattle.ranges.specs.declared.kinds.Kind.TheVariants.{Vertices, Edges, Both}
 use Rattle.ranges.specs.declared.kinds.PathRange.{PathRange}
 use Rattle.readings.specs.Numbers.{last_end, Within}
 use Rattle.readings.proofs.Bounds.{ranges_room, ranges_within}
-use Rattle.treefile.specs.File.{TreeSections, max_offsets, max_file_targets}
+use Rattle.treefile.specs.declared.page.Page.{Page}
+use Rattle.treefile.specs.File.{TreeSections, TreeFile, max_offsets, max_file_targets}
 use Rattle.treefile.specs.Flat.{Low, ShortLists}
 use Rattle.treefile.specs.Sizes.{range_digits}
 use Rattle.treereport.specs.Reports.{tree_tests, Judged}
-use Rattle.treereport.specs.Filing.{file_of, FileAsks, TreeAsks}
+use Rattle.treereport.specs.Filing.{FileAsks, TreeAsks}
 
 -- the logarithm of a number up to 1,024 is at most 10
 log2_ten : (n : ℕ) → n ≤ 1_024 → log2 n ≤ 10
@@ -88,25 +89,25 @@ tree_tests_lem s long room (inr (fits, inl p)) = absurd (p.0 room)
 tree_tests_lem s long room (inr (fits, inr (r, rest))) = inr (fits.sized, rest)
 
 -- a file has at most 1,024 vertices, for which the program's tables and work are long enough
-pub few_vertices : {os ts qs out : List ℕ} {count : ℕ} → FileAsks os ts qs count out → vertices os ≤ 1_024
+pub few_vertices : {f : TreeFile} {page : Page} → FileAsks f page → vertices f.tree.offsets ≤ 1_024
 unfolding max_offsets
 few_vertices a = omega (arith, a.few_offsets)
 
-pub work_room_lem : {os ts qs out : List ℕ} {count : ℕ} → FileAsks os ts qs count out → room_of os ts ≤ 10_240
+work_room_lem : {f : TreeFile} {page : Page} → FileAsks f page → room_of f.tree.offsets f.tree.targets ≤ 10_240
 unfolding max_offsets max_file_targets
 work_room_lem a = omega (arith, a.few_offsets, a.few_targets)
 
 -- what the build answers of a file's tree
-pub judged : {os ts : List ℕ} {root : ℕ} {qs out : List ℕ} {count : ℕ} {t t' : Six} {w w' : List ℕ} {c : ℕ} → TreeAsks os ts t qs count out → 10_240 ≤ length w
-    → Builds os ts root t w t' w' c → Judged (file_of os ts root qs count).tree c t'
-judged {os} {ts} {root} {qs} {count = count} a long b =
+pub judged : (f : TreeFile) {page : Page} {t t' : Six} {w w' : List ℕ} {c : ℕ} → TreeAsks f t page → 10_240 ≤ length w
+    → Builds f.tree.offsets f.tree.targets f.tree.root t w t' w' c → Judged f.tree c t'
+judged f a long b =
     let r = work_room_lem a.file in
-    record { first = tree_tests_lem (file_of os ts root qs count).tree a.long (omega arith) b.code; built = b.written }
+    record { first = tree_tests_lem f.tree a.long (omega arith) b.code; built = b.written }
 
 -- parts of n entries of the program's own tables
-pub tree_asks : {os ts qs out : List ℕ} {count n : ℕ} (l : List ℕ) → length l ≡ 1_024 → n ≡ vertices os → FileAsks os ts qs count out
-    → TreeAsks os ts (six (take n l) (take n l) (take n l) (take n l) (take n l) (take n l)) qs count out
-tree_asks {os} {n = n} l e is a =
+pub tree_asks : {f : TreeFile} {page : Page} {n : ℕ} (l : List ℕ) → length l ≡ 1_024 → n ≡ vertices f.tree.offsets → FileAsks f page
+    → TreeAsks f (six (take n l) (take n l) (take n l) (take n l) (take n l) (take n l)) page
+tree_asks {f} {n = n} l e is a =
     let v = few_vertices a in
-    let long : length (take n l) ≡ vertices os = length-take-le n l (omega arith) ∙ is in
+    let long : length (take n l) ≡ vertices f.tree.offsets = length-take-le n l (omega arith) ∙ is in
     record { long = record { parent = long; depth = long; head = long; id = long; order = long; size = long }; file = a }

@@ -1,12 +1,16 @@
 -- Laws of the report of a well-formed file: its lines in their places, and that they fit.
 use Prim.Native.Nat.{ℕ, ◌+◌, ◌-◌, ◌≤◌}
 use native.Mathlib.Omega.{arith}
-use mathlib.Core.Path.{◌≡◌, sym, ap, ◌∙◌, subst}
-use mathlib.Core.Bool.{Bool}
+use mathlib.Core.Path.{◌≡◌, refl, sym, ap, ◌∙◌, subst}
+use mathlib.Core.Bool.{Bool, true, false}
 use mathlib.Core.List.{List, [], ◌++◌, append-nil}
 use lib.ListN.{length, drop}
 use lib.Seq.{sets-eq}
 use borrow.Author.Tests.{eq-eqb, ne_eqb}
+use Rattle.std.specs.Prelude.{Result, Ok, Err, is_err}
+use Rattle.answers.specs.Answers.{code_of}
+use Rattle.answers.specs.declared.answer.Refusal.{Refusal}
+use Rattle.answers.specs.declared.answer.Refusal.TheVariants.{BadSize, NoRoom, BadOffsets, BadVertex, BadRoot, NotSymmetric, Disconnected, HasCycle, BadTable, TooFar}
 use Rattle.graph.specs.Lent.{vertices}
 use Rattle.tables.specs.Tables.{Six}
 use Rattle.hld.specs.Build.{Builds}
@@ -16,13 +20,13 @@ use Rattle.treefile.specs.Report.{tree_line, query_lines, file_report}
 use Rattle.treefile.specs.Flat.{ShortLists}
 use Rattle.treefile.specs.Sizes.{file_ranges, range_digits, report_size}
 use Rattle.paths.specs.Lists.{front}
-use Rattle.treefile.specs.Writing.{Room, Puts}
-use Rattle.treefile.proofs.Writing.{puts_then, puts_as, room_then}
+use Rattle.treefile.specs.declared.page.Page.{Page}
+use Rattle.treefile.specs.Writing.{Room, Puts, Prints}
+use Rattle.treefile.proofs.Writing.{prints_then, prints_as, room_then}
 use Rattle.treefile.proofs.Report.{tree_line_room, report_room_lem}
-use Rattle.querylines.specs.Lines.{queries_of, LinesAsk}
+use Rattle.querylines.specs.Lines.{LinesAsk}
 use Rattle.treereport.specs.Reports.{report_room, Judged, Written}
-use Rattle.treereport.specs.Filing.{file_of, FileAsks, TreeAsks, Told}
-use Rattle.querylines.proofs.Placing.{queries-count}
+use Rattle.treereport.specs.Filing.{FileAsks, TreeAsks, Filed}
 use Rattle.treereport.proofs.Building.{short_lists, few_vertices, judged}
 
 -- the line of the tree
@@ -38,62 +42,69 @@ pub built-report : (code : ℕ) (t : Six) (f : TreeFile) → code ≡ 0
     → file_report code t f ≡ tree_line code (length f.tree.offsets - 1) f.tree.root ++ query_lines t 1 f.queries
 built-report code t f e = ap (λ (b : Bool). line_of code f ++ pick b (query_lines t 1 f.queries) []) (eq-eqb code 0 e)
 
+-- a refusal has a code of its own, and what is answered has 0
+pub refused_code : (r : Result Unit Refusal) → true ≡ is_err r → code_of r ≡ 0 → ⊥
+refused_code (Ok x) e z = cc
+refused_code (Err BadSize) e z = omega arith
+refused_code (Err NoRoom) e z = omega arith
+refused_code (Err BadOffsets) e z = omega arith
+refused_code (Err BadVertex) e z = omega arith
+refused_code (Err BadRoot) e z = omega arith
+refused_code (Err NotSymmetric) e z = omega arith
+refused_code (Err Disconnected) e z = omega arith
+refused_code (Err HasCycle) e z = omega arith
+refused_code (Err BadTable) e z = omega arith
+refused_code (Err TooFar) e z = omega arith
+
+pub answered_code : (r : Result Unit Refusal) → false ≡ is_err r → code_of r ≡ 0
+answered_code (Ok x) e = refl
+answered_code (Err r) e = cc
+
 -- the largest report fits
 room_enough : report_size range_digits file_ranges max_queries ≤ report_room
 unfolding max_queries report_room
 room_enough = omega arith
 
 -- the line of a tree fits
-pub line_room : {os ts qs out : List ℕ} {count : ℕ} → FileAsks os ts qs count out → (code n root : ℕ) → Room (tree_line code n root) 0 out
+pub line_room : {f : TreeFile} {page : Page} → FileAsks f page → (code n root : ℕ) → Room (tree_line code n root) page
 unfolding report_room
 line_room a code n root = record { fits = omega (arith, tree_line_room code n root, a.room) }
 
-module _ {os ts : List ℕ} {root : ℕ} {qs : List ℕ} {count : ℕ} {t t' : Six} {w w' out : List ℕ} {c : ℕ} (a : TreeAsks os ts t qs count out) (long : 10_240 ≤ length w) (b : Builds os ts root t w t' w' c) where
-  -- the same line by the number of vertices
-  line_as : {n r : ℕ} {out' : List ℕ} → n ≡ vertices os → Puts (tree_line c n root) 0 out out' r → Puts (tree_line c (vertices os) root) 0 out out' r
-  line_as e p = puts_as (ap (λ (k : ℕ). tree_line c k root) e) p
-
-  pub told_refused : {n r : ℕ} {out' : List ℕ} → (c ≡ 0 → ⊥) → n ≡ vertices os → Puts (tree_line c n root) 0 out out' r
-      → Told (file_of os ts root qs count) t t' out out' r
+module _ {f : TreeFile} {t t' : Six} {w w' : List ℕ} {page page' : Page} {c : ℕ} (a : TreeAsks f t page) (long : 10_240 ≤ length w) (b : Builds f.tree.offsets f.tree.targets f.tree.root t w t' w' c) (p : Prints (tree_line c (vertices f.tree.offsets) f.tree.root) page page') where
+  pub told_refused : (c ≡ 0 → ⊥) → Filed f page page'
   unfolding report_room
-  told_refused {n} {r} ne e p =
+  told_refused ne =
       record {
         code = c;
-        judged = judged a long b;
-        refused = b.refused;
-        text = puts_as (sym (refused-report c t' (file_of os ts root qs count) ne)) (line_as e p);
-        fits = omega (arith, p.next, tree_line_room c n root, a.file.room);
+        tables = t';
+        judged = judged f a long b;
+        text = prints_as (sym (refused-report c t' f ne)) p;
+        fits = omega (arith, p.puts.next, tree_line_room c (vertices f.tree.offsets) f.tree.root, a.file.room);
       }
 
   short : c ≡ 0 → ShortLists t'
   short e = short_lists (b.written e) (few_vertices a.file)
 
-  whole_room : (e : c ≡ 0)
-      → length (tree_line c (vertices os) root ++ query_lines t' 1 (queries_of count qs)) ≤ report_size range_digits file_ranges max_queries
-  unfolding max_queries
+  whole_room : c ≡ 0 → Room (tree_line c (vertices f.tree.offsets) f.tree.root ++ query_lines t' 1 f.queries) page
+  unfolding report_room
   whole_room e =
-      let l = queries-count count qs in
-      let m = ap length (built-report c t' (file_of os ts root qs count) e) in
-      omega (arith, report_room_lem c t' (file_of os ts root qs count) (short e) (omega (arith, a.file.few_queries)))
+      let m = ap length (built-report c t' f e) in
+      let most = report_room_lem c t' f (short e) a.file.few_queries in
+      record { fits = omega (arith, room_enough, a.file.room) }
 
   -- behind the line of the tree there is room for the queries
-  pub lines_ask : {n m : ℕ} {out' : List ℕ} → c ≡ 0 → n ≡ vertices os → Puts (tree_line c n root) 0 out out' m → LinesAsk t' qs count m out'
-  unfolding report_room
-  lines_ask e same p =
-      record { short = short e; there = a.file.there; room = room_then (line_as same p) (record { fits = omega (arith, whole_room e, room_enough, a.file.room) }) }
+  pub lines_ask : c ≡ 0 → LinesAsk t' f.queries page'
+  lines_ask e = record { short = short e; room = room_then p (whole_room e) }
 
-  pub told_built : {n m r : ℕ} {out' out'' : List ℕ} → c ≡ 0 → n ≡ vertices os → Puts (tree_line c n root) 0 out out' m
-      → Puts (query_lines t' 1 (queries_of count qs)) m out' out'' r
-      → Told (file_of os ts root qs count) t t' out out'' r
-  unfolding report_room
-  told_built e same p q =
-      let both = puts_then (line_as same p) q in
+  pub told_built : {page'' : Page} → c ≡ 0 → Prints (query_lines t' 1 f.queries) page' page'' → Filed f page page''
+  told_built e q =
+      let both = prints_then p q in
       record {
         code = c;
-        judged = judged a long b;
-        refused = b.refused;
-        text = puts_as (sym (built-report c t' (file_of os ts root qs count) e)) both;
-        fits = omega (arith, both.next, whole_room e, room_enough, a.file.room);
+        tables = t';
+        judged = judged f a long b;
+        text = prints_as (sym (built-report c t' f e)) both;
+        fits = omega (arith, both.puts.next, (whole_room e).fits);
       }
 
 same_file : {f g : TreeFile} → file f ≡ file g → f ≡ g
@@ -105,14 +116,16 @@ front_puts text {out} {out'} {r} p fits =
     let z : 0 + length text ≡ length text = omega arith in
     (p.bytes ∙ sets-eq text out 0 (omega (arith, p.next)) ∙ ap (λ (k : ℕ). text ++ drop k out) z, p.next ∙ z)
 
--- what was told is the report of the file
-pub filed : {f : TreeFile} {t t' : Six} {out out' : List ℕ} {r : ℕ} → Told f t t' out out' r → Written (file f) out out' r
-filed {f} {t} {t'} {out} {out'} {r} w =
+-- at the front of the page it is the whole report
+pub written : {f : TreeFile} {page page' : Page} → page.at ≡ 0 → Filed f page page' → Written (file f) page.out.now page'.out.now page'.at
+written {f} {page} {page'} z w =
+    let text : List ℕ = file_report w.code w.tables f in
+    let puts = subst (λ (k : ℕ). Puts text k page.out.now page'.out.now page'.at) z w.text.puts in
     record {
       code = w.code;
-      tables = t';
-      judged = λ g e. subst (λ (x : TreeFile). Judged x.tree w.code t') (same_file e) w.judged;
-      bytes = (front_puts (file_report w.code t' f) w.text w.fits).0;
-      count = (front_puts (file_report w.code t' f) w.text w.fits).1;
+      tables = w.tables;
+      judged = λ g e. subst (λ (x : TreeFile). Judged x.tree w.code w.tables) (same_file e) w.judged;
+      bytes = (front_puts text puts w.fits).0;
+      count = (front_puts text puts w.fits).1;
       fits = w.fits;
     }

@@ -1,16 +1,16 @@
 // The report of a whole file.
-ghost use Rattle.tables.specs.Tables.{six};
-ghost use Rattle.treefile.specs.File.{file};
-ghost use Rattle.treereport.specs.Reports.{Written, Reports};
-ghost use Rattle.treereport.specs.Filing.{file_of, TreeAsks, Told, FileAsks};
+ghost use Rattle.tables.specs.Tables.{six_mut};
+ghost use Rattle.treereport.specs.Reports.{Reports};
+ghost use Rattle.treereport.specs.Filing.{file_of, TreeAsks, FileAsks, Filed};
 
-use answers::codes::DONE;
-use graph::lists::vertices;
+use graph::lists::Graph;
 use hld::build::try_hld;
 use querylines::lines::put_queries;
-use treefile::judge::{MAX_OFFSETS, MAX_QUERIES, MAX_TARGETS};
-use treefile::lines::{put_bad_file, put_tree_line};
+use tables::{Tables, TablesMut};
+use treefile::judge::{MAX_OFFSETS, MAX_TARGETS};
+use treefile::page::Page;
 use treefile::parse::parse;
+use treefile::query::{MAX_QUERIES, Query};
 
 // Bytes that hold every report.
 pub const REPORT_ROOM: usize = 65_536;
@@ -18,95 +18,93 @@ pub const REPORT_ROOM: usize = 65_536;
 // The most vertices of a file's tree.
 const MAX_VERTICES: usize = 1_024;
 
-// Builds the tables of a tree, each lent with n entries, and writes the report.
-fn report_tree(
-    offsets: &[u32],
-    targets: &[u32],
-    root: usize,
-    parent: &mut [u32],
-    depth: &mut [u32],
-    head: &mut [u32],
-    id: &mut [u32],
-    order: &mut [u32],
-    size: &mut [u32],
-    queries: &[u32],
-    count: usize,
-    out: &mut [u8],
-) -> usize
-    requires { TreeAsks offsets.now targets.now (six parent.old depth.old head.old id.old order.old size.old) queries.now count out.old }
-    ensures { Told (file_of offsets.now targets.now root queries.now count) (six parent.old depth.old head.old id.old order.old size.old) (six parent.new depth.new head.new id.new order.new size.new) out.old out.new result }
-{
-    let mut work = [0u32; 8 * MAX_VERTICES + MAX_TARGETS];
-    let code = try_hld(
-        offsets, targets, root, parent, depth, head, id, order, size, &mut work,
-    );
-    let next = put_tree_line(out, 0, code, vertices(offsets), root);
-    if code != DONE {
-        return next;
-    }
-    put_queries(
-        parent, depth, head, id, order, size, queries, count, out, next,
-    )
+// A well-formed file: its tree, from the root, and its queries.
+#[derive(Clone, Copy)]
+pub struct File<'a> {
+    pub graph: Graph<'a>,
+    pub root: usize,
+    pub queries: &'a [Query],
 }
 
-// The report of a well-formed file.
-fn report_file(
-    offsets: &[u32],
-    targets: &[u32],
-    root: usize,
-    queries: &[u32],
-    count: usize,
-    out: &mut [u8],
-) -> usize
-    requires { FileAsks offsets.now targets.now queries.now count out.old }
-    ensures { Written (file (file_of offsets.now targets.now root queries.now count)) out.old out.new result }
+// Builds the tables of a tree, each lent with n entries, and puts its line and, where there is a tree, the lines of the queries.
+fn report_tree(file: &File, mut tables: TablesMut, page: &mut Page)
+    requires { TreeAsks (file_of file.now) (six_mut tables) page.old }
+    ensures { Filed (file_of file.now) page.old page.new }
 {
-    let n = vertices(offsets);
+    let mut work = [0u32; 8 * MAX_VERTICES + MAX_TARGETS];
+    let built = try_hld(&file.graph, file.root, &mut tables, &mut work);
+    page.put_tree_line(built, file.graph.vertices(), file.root);
+    if built.is_err() {
+        return;
+    }
+    let TablesMut {
+        parent,
+        depth,
+        head,
+        id,
+        order,
+        size,
+    } = tables;
+    let read = Tables {
+        parent,
+        depth,
+        head,
+        id,
+        order,
+        size,
+    };
+    put_queries(&read, file.queries, page);
+}
+
+// The report of a well-formed file, on tables of its own.
+#[tactic(auto, unfolding(treefile::specs::File::max_offsets))]
+fn report_file(file: &File, page: &mut Page)
+    requires { FileAsks (file_of file.now) page.old }
+    ensures { Filed (file_of file.now) page.old page.new }
+{
+    let n = file.graph.vertices();
     let mut parent = [0u32; MAX_VERTICES];
     let mut depth = [0u32; MAX_VERTICES];
     let mut head = [0u32; MAX_VERTICES];
     let mut id = [0u32; MAX_VERTICES];
     let mut order = [0u32; MAX_VERTICES];
     let mut size = [0u32; MAX_VERTICES];
-    report_tree(
-        offsets,
-        targets,
-        root,
-        &mut parent[..n],
-        &mut depth[..n],
-        &mut head[..n],
-        &mut id[..n],
-        &mut order[..n],
-        &mut size[..n],
-        queries,
-        count,
-        out,
-    )
+    let tables = TablesMut {
+        parent: &mut parent[..n],
+        depth: &mut depth[..n],
+        head: &mut head[..n],
+        id: &mut id[..n],
+        order: &mut order[..n],
+        size: &mut size[..n],
+    };
+    report_tree(file, tables, page);
 }
 
 // Writes the report of a file's bytes to the front of out and returns its length. Where out has less than REPORT_ROOM bytes it writes nothing and
 // returns 0. It takes about 80 KiB of stack.
+#[tactic(auto, unfolding(crate::specs::Reports::report_room))]
 pub fn report(bytes: &[u8], out: &mut [u8]) -> usize
     ensures { Reports bytes.now out.old out.new result }
 {
     if out.len() < REPORT_ROOM {
         return 0;
     }
+    let mut page = Page { out, at: 0 };
     let mut offsets = [0u32; MAX_OFFSETS];
     let mut targets = [0u32; MAX_TARGETS];
-    let mut queries = [0u32; 4 * MAX_QUERIES];
-    let shape = parse(bytes, &mut offsets, &mut targets, &mut queries);
-    if !shape.good {
-        return put_bad_file(out, 0);
-    }
-    let o = shape.offsets;
-    let t = shape.targets;
-    report_file(
-        &offsets[..o],
-        &targets[..t],
-        shape.root,
-        &queries,
-        shape.queries,
-        out,
-    )
+    let mut queries = [Query::default(); MAX_QUERIES];
+    let Some(shape) = parse(bytes, &mut offsets, &mut targets, &mut queries) else {
+        page.put_bad_file();
+        return page.at;
+    };
+    let file = File {
+        graph: Graph {
+            offsets: &offsets[..shape.offsets],
+            targets: &targets[..shape.targets],
+        },
+        root: shape.root,
+        queries: &queries[..shape.queries],
+    };
+    report_file(&file, &mut page);
+    page.at
 }

@@ -1,17 +1,16 @@
 // Tree validation: a graph is accepted exactly when it is a tree.
 #![tactic(auto)]
 
+ghost use Rattle.answers.specs.Answers.{code_of};
 ghost use Rattle.graph.specs.Judgement.{Decides};
 ghost use Rattle.graph.specs.Validation.{Validates};
 ghost use Rattle.graph.specs.Steps.{Begun};
 ghost use Rattle.validate.specs.Judged.{Judged};
 ghost use Rattle.validate.specs.Counts.{CountsAsk, TreeCounts};
 
-use answers::codes::{
-    BAD_OFFSETS, BAD_ROOT, BAD_VERTEX, DISCONNECTED, DONE, HAS_CYCLE, NOT_SYMMETRIC,
-};
+use answers::answer::Refusal;
 use graph::call::{begin, finish};
-use graph::lists::{sound_offsets, sound_targets};
+use graph::lists::Graph;
 use parents::parents_listed;
 use symmetry::symmetric;
 use visit::visit;
@@ -21,56 +20,50 @@ fn tree_counts(n: usize, met: usize, entries: usize) -> bool
     requires { CountsAsk n }
     ensures { Decides (TreeCounts n met entries) result }
 {
-    if met != n {
-        return false;
-    }
-    entries == 2 * (n - 1)
+    met == n && entries == 2 * (n - 1)
 }
 
-// The code of the first of the tests 3 to 8 that is not passed, for a graph within its limits and work that is long enough. Symmetry need
-// not be tested first: where the visit meets all n vertices, E is 2(n - 1) and each vertex but the root has in its list the one from which
-// it was met, these are all the entries, and the lists are a tree's. After DONE the visit from the root stands in work, from index 0 on.
+// The first of the tests 3 to 8 that is not passed, for a graph within its limits and work that is long enough. Symmetry need not be tested
+// first: where the visit meets all n vertices, E is 2(n - 1) and each vertex but the root has in its list the one from which it was met,
+// these are all the entries, and the lists are a tree's. Where nothing is refused the visit from the root stands in work, from index 0 on.
 // The symmetry test uses the cursors' n entries from 7n on and the E entries behind them.
-pub fn judge(offsets: &[u32], targets: &[u32], root: usize, work: &mut [u32]) -> u32
-    requires { Begun offsets.now targets.now work.old }
-    ensures { Judged offsets.now targets.now root work.old work.new result }
+pub fn judge(graph: &Graph, root: usize, work: &mut [u32]) -> Result<(), Refusal>
+    requires { Begun graph.now.offsets.now graph.now.targets.now work.old }
+    ensures { Judged graph.now.offsets.now graph.now.targets.now root work.old work.new (code_of result) }
 {
-    let n = offsets.len() - 1;
-    if !sound_offsets(offsets, targets) {
-        return BAD_OFFSETS;
+    if !graph.sound_offsets() {
+        return Err(Refusal::BadOffsets);
     }
-    if !sound_targets(offsets, targets) {
-        return BAD_VERTEX;
+    if !graph.sound_targets() {
+        return Err(Refusal::BadVertex);
     }
+    let n = graph.vertices();
     if n <= root {
-        return BAD_ROOT;
+        return Err(Refusal::BadRoot);
     }
-    let met = visit(offsets, targets, n, 0, root, work);
-    if tree_counts(n, met, targets.len()) {
-        if !parents_listed(offsets, targets, n, work) {
-            return NOT_SYMMETRIC;
+    let met = visit(graph, n, 0, root, work);
+    if tree_counts(n, met, graph.targets.len()) {
+        if !parents_listed(graph, n, work) {
+            return Err(Refusal::NotSymmetric);
         }
-        return DONE;
+        return Ok(());
     }
-    if !symmetric(offsets, targets, n, 7 * n, work) {
-        return NOT_SYMMETRIC;
+    if !symmetric(graph, n, 7 * n, work) {
+        return Err(Refusal::NotSymmetric);
     }
     if met < n {
-        return DISCONNECTED;
+        return Err(Refusal::Disconnected);
     }
-    HAS_CYCLE
+    Err(Refusal::HasCycle)
 }
 
-// Judges the graph of offsets and targets, seen from root: the code of the first of the tests 1 to 8 that is not passed, and DONE for a tree.
-// Work needs 8n + E entries, which are zero afterwards. Time O(n + E) on every input.
-pub fn validate_tree(offsets: &[u32], targets: &[u32], root: usize, work: &mut [u32]) -> u32
-    ensures { Validates offsets.now targets.now root work.old work.new result }
+// Judges the graph, seen from root: the first of the tests 1 to 8 that is not passed, and nothing refused for a tree. Work needs 8n + E
+// entries, which are zero afterwards. Time O(n + E) on every input.
+pub fn validate_tree(graph: &Graph, root: usize, work: &mut [u32]) -> Result<(), Refusal>
+    ensures { Validates graph.now.offsets.now graph.now.targets.now root work.old work.new (code_of result) }
 {
-    let begun = begin(offsets, targets, true, work.len());
-    if begun != DONE {
-        return begun;
-    }
-    let code = judge(offsets, targets, root, work);
-    finish(offsets, targets, work);
-    code
+    begin(graph, true, work.len())?;
+    let judged = judge(graph, root, work);
+    finish(graph, work);
+    judged
 }

@@ -12,7 +12,7 @@ use Rattle.graph.specs.Work.{Only, Zeroed}
 use Rattle.graph.specs.Marks.{mark_of}
 use Rattle.graph.proofs.Frames.{only_refl, only_trans, only_wider}
 use Rattle.visit.specs.Visit.{VisitAsks, VisitAnswers}
-use Rattle.visit.specs.Steps.{SeenIn, Meets, Met, old, new, ListAsks, ListAnswers}
+use Rattle.visit.specs.Steps.{SeenIn, Met, old, new, ListAsks, ListAnswers}
 use Rattle.visit.proofs.Growing.{seen_start, seen_next, seen_done}
 use Rattle.visit.proofs.Looking.{new_queue, new_marks, new_only, entries}
 
@@ -32,17 +32,6 @@ pub record Going (os ts : List ℕ) (n base root : ℕ) (w₀ w : List ℕ) (i t
   pub only : Only base (base + 3 * n) w₀ w
 
 module _ (os ts : List ℕ) (n base root : ℕ) (w : List ℕ) (a : VisitAsks os ts n base root w) where
-  -- the root can be met
-  pub root_asks : {w₁ : List ℕ} → Zeroed (base + 2 * n) (base + 2 * n + n / 32 + 1) w w₁ → Meets n base root 0 0 w₁
-  root_asks z =
-      record {
-        small = a.small;
-        vertex = a.root_below;
-        position = omega (arith, a.root_below);
-        fresh = λ f. omega (arith, a.root_below);
-        room = omega (arith, a.room, z.only.same_length);
-      }
-
   -- work with the root met
   met_only : {w₁ w₂ : List ℕ} {t : ℕ} → Zeroed (base + 2 * n) (base + 2 * n + n / 32 + 1) w w₁ → Met n base root 0 0 w₁ w₂ t → Only base (base + 3 * n) w₁ w₂
   met_only {w₁} {w₂} {t} z (old mk same r) = subst (Only base (base + 3 * n) w₁) (sym same) (only_refl base (base + 3 * n) w₁)

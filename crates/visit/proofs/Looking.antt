@@ -1,7 +1,7 @@
 -- A visit in work: looking through the list of one position, and from position to position.
 use Prim.Native.Nat.{ℕ, ◌+◌, ◌*◌, ◌≤◌, ◌<◌, ◌/◌, ◌%◌, ◌^◌}
 use native.Mathlib.Omega.{arith}
-use mathlib.Core.Path.{◌≡◌, refl, sym, ap, ◌∙◌, subst, subst₂}
+use mathlib.Core.Path.{◌≡◌, sym, ap, ◌∙◌, subst, subst₂}
 use mathlib.Core.Logic.{◌≢◌}
 use mathlib.Core.List.{List}
 use lib.ListN.{length, set, length-set}
@@ -9,10 +9,10 @@ use Rattle.sums.specs.Sum.{at}
 use Rattle.graph.specs.Lent.{vertices, list_of, Offsets, Targets}
 use Rattle.graph.specs.Work.{Only, Put}
 use Rattle.graph.specs.Marks.{mark_of, Marks}
-use Rattle.graph.proofs.Frames.{only_refl, only_trans, at_set_same, at_set_other}
+use Rattle.graph.proofs.Frames.{only_trans, at_set_same, at_set_other}
 use Rattle.graph.proofs.Neighbours.{entry-below}
 use Rattle.visit.specs.Visit.{queue_in, up_in}
-use Rattle.visit.specs.Steps.{SeenIn, Meets, queued, Met, old, new, ListAsks, ListAnswers}
+use Rattle.visit.specs.Steps.{SeenIn, Meets, queued, Met, old, new, ListAsks}
 use Rattle.visit.proofs.Growing.{upd, put_old, seen_old, seen_new, fresh_room, few}
 
 -- the list of position i is looked through: k of its entries so far, with work w₀ at its start
@@ -132,20 +132,6 @@ module _ (os ts : List ℕ) (n : ℕ) (size : n ≡ vertices os) (O : Offsets os
     looking_more {w} {w'} {k} {t} {t'} L hk (new w₁ fresh M same r) =
         subst₂ (λ (v : List ℕ) (s : ℕ). Looking os ts n base i w₀ v (k + 1) s) (sym same) (sym r) (more_new L hk fresh M)
 
-    -- the list was looked through
-    pub looking-done : {w : List ℕ} {k t : ℕ} → Looking os ts n base i w₀ w k t → k ≡ length (list_of os ts (at w₀ (base + i))) → ListAnswers os ts n base i w₀ w t
-    looking-done {w} {k} {t} L e =
-        record {
-          seen = subst (λ (y : ℕ). SeenIn os ts n base (at w₀ base) w i y t) e L.seen;
-          inside = L.inside;
-          kept = L.kept;
-          only = L.only;
-        }
-
-pub looking_start : {os ts : List ℕ} {n base i t : ℕ} {w : List ℕ} → ListAsks os ts n base i t w → Looking os ts n base i w w 0 t
-looking_start {os} {ts} {n} {base} {i} {t} {w} a =
-    record { seen = a.seen; inside = a.inside; kept = refl; only = only_refl base (base + 3 * n) w }
-
 -- the same over the list l as the code holds it
 module _ (os ts : List ℕ) (n base i t₀ : ℕ) (w₀ l : List ℕ) (a : ListAsks os ts n base i t₀ w₀) (e : l ≡ list_of os ts (at w₀ (base + i))) where
   pub list_asks : {w : List ℕ} {k t : ℕ} → Looking os ts n base i w₀ w k t → k < length l → Meets n base (at l k) i t w
@@ -157,6 +143,3 @@ module _ (os ts : List ℕ) (n base i t₀ : ℕ) (w₀ l : List ℕ) (a : ListA
   list_more {w} {w'} {k} {t} {t'} =
       subst (λ (m : List ℕ). Looking os ts n base i w₀ w k t → k < length m → Met n base (at m k) i t w w' t' → Looking os ts n base i w₀ w' (k + 1) t') (sym e)
       (looking_more os ts n a.size a.offsets a.targets base i w₀ a.room)
-
-  pub list_done : {w : List ℕ} {k t : ℕ} → Looking os ts n base i w₀ w k t → k ≡ length l → ListAnswers os ts n base i w₀ w t
-  list_done L h = looking-done os ts n a.size a.offsets a.targets base i w₀ a.room L (h ∙ ap length e)

@@ -3,7 +3,7 @@ use Rattle.visit.proofs.Going.{Going}
 use Rattle.visit.proofs.visit.Given as goal
 
 abbrev pub invariant-loop-i : goal.invariant-loop-i
-invariant-loop-i l = Going l.offsets l.targets l.n l.base l.root l.initial.work l.work l.i l.count
+invariant-loop-i l = Going l.graph.offsets.now l.graph.targets.now l.n l.base l.root l.initial.work l.work l.i l.count
 
 abbrev pub decreases-loop-i : goal.decreases-loop-i
 decreases-loop-i l = l.n - l.i

@@ -1,77 +1,40 @@
 -- `between::distance` meets its contract: it climbs to the ancestor and counts the edges on both sides of it.
-use borrow.Author.Tests.{not-true, not-false}
-use mathlib.Core.Path.{sym, ◌∙◌}
+use mathlib.Core.Path.{◌∙◌}
 use mathlib.Core.List.{[], ◌∷◌}
-use Rattle.tables.specs.Tables.{six}
-use Rattle.answers.specs.declared.answer.Answer.TheVariants.{Refused}
-use native.Mathlib.Omega.{arith}
-use Rattle.climb.proofs.Passed.{Passed, verdict_passed, verdict_refused, answered, lengths, few_parent, first_below, others}
-use Rattle.climb.proofs.Climbs.{climb_off_u, climb_off_v}
-use Rattle.climb.proofs.Reaching.{reached_off, reached_depth, reached_seat, seat_facts}
-use Rattle.climb.proofs.Handed.{climbs-from, climbed_there, climbed_off, climbed_unhung, climbed_on, p_low, q_low}
+use Rattle.tables.specs.Tables.{six_in}
+use Rattle.answers.proofs.Passed.{handed_on}
+use Rattle.climb.proofs.Passed.{Passed, tests_passed, answered, lengths, few_parent}
+use Rattle.climb.proofs.Reaching.{reached_depth}
+use Rattle.climb.proofs.Handed.{climbs-from, met_there, lost_u, lost_v}
 use Rattle.between.proofs.Answering.{distance_lost, distance_met}
 use Rattle.between.proofs.distance.distance.Goals as goal
-use Rattle.between.proofs.distance.distance.Goals.{In_default}
+use Rattle.between.proofs.distance.distance.Goals.{In_ok-asked, In_ok-q}
 
 -- the tests before the query were passed
-passed : (c : In_default) → Passed (six c.args.parent.now c.args.depth.now c.args.head.now c.args.id.now c.args.order.now c.args.size.now) (c.args.u ∷ c.args.v ∷ [])
-passed c = verdict_passed (six c.args.parent.now c.args.depth.now c.args.head.now c.args.id.now c.args.order.now c.args.size.now) (c.args.u ∷ c.args.v ∷ []) (sym c.asked.ensures ∙ c.in_default.is)
+passed : (c : In_ok-asked) → Passed (six_in c.args.tables.now) (c.args.u ∷ c.args.v ∷ [])
+passed c = tests_passed _ _ c.in_ok-asked.ensures
 
-pub returns-in-Refused : goal.returns-in-Refused
-returns-in-Refused c =
-    let t = six c.args.parent.now c.args.depth.now c.args.head.now c.args.id.now c.args.order.now c.args.size.now in
-    verdict_refused t (c.args.u ∷ c.args.v ∷ []) Refused _ (sym c.asked.ensures ∙ c.in-Refused.is)
+pub returns-in_err-p : goal.returns-in_err-p
+returns-in_err-p c =
+    handed_on _ c.from_residual-in_err-p.ensures.1
+    ∙ answered (passed (goal.at.returns-in_err-p c).In_ok-asked) (distance_lost _ _ _ _ (lost_u _ c.in_err-p.ensures))
 
-pub reach-p-requires : goal.reach-p-requires
-reach-p-requires c =
-    let p = passed (goal.at.reach-p-requires c).In_default in
-    record { even = (lengths p).even; vertex = first_below p }
+pub returns-in_err-q : goal.returns-in_err-q
+returns-in_err-q c =
+    handed_on _ c.from_residual-in_err-q.ensures.1
+    ∙ answered (passed (goal.at.returns-in_err-q c).In_ok-asked) (distance_lost _ _ _ _ (lost_v _ c.in_err-q.ensures))
 
-pub returns-then-not-p : goal.returns-then-not-p
-returns-then-not-p c =
-    answered (passed (goal.at.returns-then-not-p c).In_default) Refused (distance_lost _ _ _ _ (sym (climb_off_u _ _ _ _ (reached_off c.args.parent.now c.args.depth.now c.args.head.now c.args.id.now c.reach-p.ensures (not-true _ c.if-not-p.true) _ _))))
+pub meet-requires : goal.meet-requires
+meet-requires c =
+    let l = lengths (passed (goal.at.meet-requires c).In_ok-asked) in
+    climbs-from c.in_ok-p.ensures c.in_ok-q.ensures l.even (few_parent l.few)
 
-pub reach-q-requires : goal.reach-q-requires
-reach-q-requires c =
-    let p = passed (goal.at.reach-q-requires c).In_default in
-    record { even = (lengths p).even; vertex = first_below (others p) }
-
-pub returns-then-not-q : goal.returns-then-not-q
-returns-then-not-q c =
-    answered (passed (goal.at.returns-then-not-q c).In_default) Refused (distance_lost _ _ _ _ (sym (climb_off_v _ _ _ _ (reached_off c.args.parent.now c.args.depth.now c.args.head.now c.args.id.now c.reach-q.ensures (not-true _ c.if-not-q.true) _ _))))
-
-pub climb_to_lca-requires : goal.climb_to_lca-requires
-climb_to_lca-requires c =
-    let p = passed (goal.at.climb_to_lca-requires c).In_default in
-    climbs-from c.args.parent.now c.args.depth.now c.args.head.now c.args.id.now c.reach-p.ensures (not-false _ c.if-not-p.false) c.reach-q.ensures (not-false _ c.if-not-q.false) (lengths p).even (few_parent (lengths p).few)
-
-pub returns-in_default-climb_to_lca : goal.returns-in_default-climb_to_lca
-returns-in_default-climb_to_lca c =
-    answered (passed (goal.at.returns-in_default-climb_to_lca c).In_default) Refused (distance_lost _ _ _ _ (climbed_off c.args.parent.now c.args.depth.now c.args.head.now c.args.id.now (climbed_there c.args.parent.now c.args.depth.now c.args.head.now c.args.id.now c.reach-p.ensures (not-false _ c.if-not-p.false) c.reach-q.ensures (not-false _ c.if-not-q.false) c.climb_to_lca.ensures) c.in_default-climb_to_lca.is _ _))
-
-pub hangs-requires : goal.hangs-requires
-hangs-requires c =
-    let p = passed (goal.at.hangs-requires c).In_default in
-    record { depth = (lengths p).even.depth; id = (lengths p).even.id }
-
-pub returns-then-not-hangs : goal.returns-then-not-hangs
-returns-then-not-hangs c =
-    answered (passed (goal.at.returns-then-not-hangs c).In_default) Refused (distance_lost _ _ _ _ (climbed_unhung c.args.parent.now c.args.depth.now c.args.head.now c.args.id.now (climbed_there c.args.parent.now c.args.depth.now c.args.head.now c.args.id.now c.reach-p.ensures (not-false _ c.if-not-p.false) c.reach-q.ensures (not-false _ c.if-not-q.false) c.climb_to_lca.ensures) c.in-Met.is (sym c.hangs.ensures ∙ c.if-not-hangs.true) _ _))
-
-pub overflow_add-result : goal.overflow_add-result
-overflow_add-result c =
-    omega (arith, c.well_formed, seat_facts c.args.parent.now c.args.depth.now c.args.head.now c.args.id.now _ (reached_seat c.args.parent.now c.args.depth.now c.args.head.now c.args.id.now c.reach-p.ensures (not-false _ c.if-not-p.false)), seat_facts c.args.parent.now c.args.depth.now c.args.head.now c.args.id.now _ (reached_seat c.args.parent.now c.args.depth.now c.args.head.now c.args.id.now c.reach-q.ensures (not-false _ c.if-not-q.false)))
-
-pub overflow_mul-result : goal.overflow_mul-result
-overflow_mul-result c =
-    let p = passed (goal.at.overflow_mul-result c).In_default in
-    omega (arith, c.well_formed, seat_facts c.args.parent.now c.args.depth.now c.args.head.now c.args.id.now _ (reached_seat c.args.parent.now c.args.depth.now c.args.head.now c.args.id.now c.reach-p.ensures (not-false _ c.if-not-p.false)), p_low c.args.parent.now c.args.depth.now c.args.head.now c.args.id.now (climbs-from c.args.parent.now c.args.depth.now c.args.head.now c.args.id.now c.reach-p.ensures (not-false _ c.if-not-p.false) c.reach-q.ensures (not-false _ c.if-not-q.false) (lengths p).even (few_parent (lengths p).few)) c.climb_to_lca.ensures c.in-Met.is c.ancestor-w.ensures)
-
-pub overflow_sub-result : goal.overflow_sub-result
-overflow_sub-result c =
-    let p = passed (goal.at.overflow_sub-result c).In_default in
-    omega (arith, p_low c.args.parent.now c.args.depth.now c.args.head.now c.args.id.now (climbs-from c.args.parent.now c.args.depth.now c.args.head.now c.args.id.now c.reach-p.ensures (not-false _ c.if-not-p.false) c.reach-q.ensures (not-false _ c.if-not-q.false) (lengths p).even (few_parent (lengths p).few)) c.climb_to_lca.ensures c.in-Met.is c.ancestor-w.ensures, q_low c.args.parent.now c.args.depth.now c.args.head.now c.args.id.now (climbs-from c.args.parent.now c.args.depth.now c.args.head.now c.args.id.now c.reach-p.ensures (not-false _ c.if-not-p.false) c.reach-q.ensures (not-false _ c.if-not-q.false) (lengths p).even (few_parent (lengths p).few)) c.climb_to_lca.ensures c.in-Met.is c.ancestor-w.ensures)
+pub returns-in_err-climb : goal.returns-in_err-climb
+returns-in_err-climb c =
+    handed_on _ c.from_residual-in_err-climb.ensures.1
+    ∙ answered (passed (goal.at.returns-in_err-climb c).In_ok-asked) (distance_lost _ _ _ _ (met_there c.in_ok-p.ensures c.in_ok-q.ensures c.in_err-climb.ensures).is)
 
 pub returns : goal.returns
 returns c =
-    answered (passed (goal.at.returns c).In_default) Refused (distance_met _ _ _ _ (reached_depth c.args.parent.now c.args.depth.now c.args.head.now c.args.id.now c.reach-p.ensures (not-false _ c.if-not-p.false)) (reached_depth c.args.parent.now c.args.depth.now c.args.head.now c.args.id.now c.reach-q.ensures (not-false _ c.if-not-q.false)) (climbed_on c.args.parent.now c.args.depth.now c.args.head.now c.args.id.now (climbed_there c.args.parent.now c.args.depth.now c.args.head.now c.args.id.now c.reach-p.ensures (not-false _ c.if-not-p.false) c.reach-q.ensures (not-false _ c.if-not-q.false) c.climb_to_lca.ensures) c.in-Met.is (sym c.hangs.ensures ∙ c.if-not-hangs.false) _ _) c.ancestor-w.ensures)
+    answered (passed (goal.at.returns c).In_ok-asked)
+    (distance_met _ _ _ _ (reached_depth c.in_ok-p.ensures) (reached_depth c.in_ok-q.ensures) (met_there c.in_ok-p.ensures c.in_ok-q.ensures c.in_ok-climb.ensures).is c.ancestor-w.ensures)

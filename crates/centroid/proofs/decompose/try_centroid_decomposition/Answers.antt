@@ -1,14 +1,9 @@
-use Rattle.graph.proofs.Calling.{fits_told, begun_fits, begun, not_begun, still_begun, whole_call}
+use Rattle.graph.proofs.Calling.{fits_told, begun_fits, begun, whole_call}
 use Rattle.centroid.proofs.decompose.try_centroid_decomposition.Goals as goal
 
-pub returns-then-begun-ne-DONE : goal.returns-then-begun-ne-DONE
-returns-then-begun-ne-DONE c = let d = rw c.vertices.ensures at c.long-fits.ensures in not_begun (fits_told d) (λ r. r) c.begin-begun.ensures c.if-begun-ne-DONE.true
-
-pub decompose_graph-code-requires : goal.decompose_graph-code-requires
-decompose_graph-code-requires c = let d = rw c.vertices.ensures at c.long-fits.ensures in record { begun = begun c.begin-begun.ensures c.if-begun-ne-DONE.false; long = d.right (begun_fits c.begin-begun.ensures c.if-begun-ne-DONE.false).tables }
-
-pub finish-requires : goal.finish-requires
-finish-requires c = still_begun (begun c.begin-begun.ensures c.if-begun-ne-DONE.false) c.decompose_graph-code.ensures.only
-
 pub returns : goal.returns
-returns c = let d = rw c.vertices.ensures at c.long-fits.ensures in let b = begun c.begin-begun.ensures c.if-begun-ne-DONE.false in whole_call ((fits_told d).1 (begun_fits c.begin-begun.ensures c.if-begun-ne-DONE.false)) b.room b c.decompose_graph-code.ensures c.finish.ensures
+returns c =
+    let d = rw c.vertices.ensures at c.long-fits.ensures in
+    let f = c.in_ok-begin.ensures in
+    let b = begun f in
+    whole_call ((fits_told d).1 (begun_fits f)) b.room b c.decompose_graph-decomposed.ensures c.finish.ensures

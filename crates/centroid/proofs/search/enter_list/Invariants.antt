@@ -1,10 +1,5 @@
-use Prim.Native.Nat.{◌≤◌, ◌-◌}
-use lib.ListN.{length}
 use Rattle.centroid.proofs.Entering.{Entering}
 use Rattle.centroid.proofs.search.enter_list.Given as goal
 
-abbrev pub invariant-loop-k : goal.invariant-loop-k
-invariant-loop-k l = Entering l.offsets l.targets l.n l.i l.initial.work l.work l.k l.count × (l.k ≤ length l.list)
-
-abbrev pub decreases-loop-k : goal.decreases-loop-k
-decreases-loop-k l = length l.list - l.k
+abbrev pub invariant-loop-x : goal.invariant-loop-x
+invariant-loop-x l = Entering l.graph.offsets.now l.graph.targets.now l.n l.i l.initial.work l.work l.x-index l.count

@@ -3,6 +3,3 @@ use Rattle.centroid.proofs.search.pick_centroid.Given as goal
 
 abbrev pub invariant-loop-left : goal.invariant-loop-left
 invariant-loop-left l = Handing l.n l.total l.initial.work l.work l.left
-
-abbrev pub decreases-loop-left : goal.decreases-loop-left
-decreases-loop-left l = l.left

@@ -3,11 +3,8 @@ use Rattle.numbering.proofs.Logs.{log2_more, log2_worn}
 use Rattle.climb.proofs.Reaching.{leave_late, leave_here}
 use Rattle.climb.proofs.climbing.leave_chain.Goals as goal
 
-pub overflow_shr-parent : goal.overflow_shr-parent
-overflow_shr-parent c = c.requires.few
-
-pub returns-then-parent-left-lt2 : goal.returns-then-parent-left-lt2
-returns-then-parent-left-lt2 c = leave_late c.requires c.nowhere.ensures (log2_worn _ _ c.if-parent-left-lt2.true)
+pub returns-then-tables-left-lt2 : goal.returns-then-tables-left-lt2
+returns-then-tables-left-lt2 c = leave_late c.requires (log2_worn _ _ c.if-tables-left-lt2.true)
 
 pub returns : goal.returns
-returns c = leave_here c.requires (log2_more _ _ c.if-parent-left-lt2.false) c.reach_above.ensures
+returns c = leave_here c.requires (log2_more _ _ c.if-tables-left-lt2.false) c.reach_above.ensures

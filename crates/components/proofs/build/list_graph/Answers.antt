@@ -1,27 +1,32 @@
 use native.Mathlib.Omega.{arith}
-use Rattle.graph.proofs.Judging.{passed, failed}
-use Rattle.components.proofs.Answering.{no_starts, not_tree, tree_asks, total_asks, not_fitting, list_asks, listed}
+use mathlib.Core.Path.{refl}
+use Rattle.components.proofs.Answering.{tree_asks, total_asks, not_fitting, list_asks, listed}
 use Rattle.components.proofs.build.list_graph.Goals as goal
 
-pub returns-then-starts-n : goal.returns-then-starts-n
-returns-then-starts-n c = no_starts _ _ _ _ _ _ _ c.requires c.if-starts-n.true
-
-pub returns-then-code-ne-DONE : goal.returns-then-code-ne-DONE
-returns-then-code-ne-DONE c = not_tree _ _ _ _ _ _ _ c.requires c.if-starts-n.false c.judge-code.ensures c.if-code-ne-DONE.true
-
 pub find_levels-requires : goal.find_levels-requires
-find_levels-requires c =
-    tree_asks _ _ c.args.vertices.now c.args.distances.now c.args.branches.now c.args.starts.now _ c.requires c.if-starts-n.false c.judge-code.ensures c.if-code-ne-DONE.false
+find_levels-requires c = rw c.vertices-n.ensures (tree_asks c.requires c.in_ok-judge.ensures)
 
-pub total_room-total-requires : goal.total_room-total-requires
-total_room-total-requires c =
-    total_asks _ _ c.args.vertices.now c.args.distances.now c.args.branches.now c.args.starts.now _ c.requires c.if-starts-n.false c.judge-code.ensures c.if-code-ne-DONE.false c.find_levels.ensures
+pub total_room-requires : goal.total_room-requires
+total_room-requires c = rw c.vertices-n.ensures (total_asks c.requires c.in_ok-judge.ensures (rw c.vertices-n.ensures at c.find_levels.ensures))
 
 pub returns-then-not-fitting : goal.returns-then-not-fitting
-returns-then-not-fitting c = not_fitting _ _ _ _ _ _ _ c.requires c.if-starts-n.false c.judge-code.ensures c.if-code-ne-DONE.false c.find_levels.ensures (λ h. failed c.fitting.ensures c.if-not-fitting.true-raw (omega arith, omega arith, omega arith))
+returns-then-not-fitting c =
+    record {
+      same = (refl, refl, refl);
+      lists = not_fitting c.requires c.in_ok-judge.ensures (rw c.vertices-n.ensures at c.find_levels.ensures) (omega (arith, c.vertices-n.ensures))
+          (rw c.vertices-n.ensures at c.total_room.ensures) (c.fitting.ensures.wrong c.if-not-fitting.true);
+    }
 
 pub list_all-requires : goal.list_all-requires
-list_all-requires c = list_asks _ _ _ _ _ _ _ c.requires c.if-starts-n.false c.judge-code.ensures c.if-code-ne-DONE.false c.find_levels.ensures (let h = passed c.fitting.ensures c.if-not-fitting.false-raw in (omega arith, omega arith, omega arith))
+list_all-requires c =
+    rw c.vertices-n.ensures
+    (list_asks c.requires c.in_ok-judge.ensures (rw c.vertices-n.ensures at c.find_levels.ensures) (omega (arith, c.vertices-n.ensures))
+    (rw c.vertices-n.ensures at c.total_room.ensures) (c.fitting.ensures.right c.if-not-fitting.false))
 
 pub returns : goal.returns
-returns c = listed _ _ _ _ _ _ _ c.requires c.if-starts-n.false c.judge-code.ensures c.if-code-ne-DONE.false c.find_levels.ensures (let h = passed c.fitting.ensures c.if-not-fitting.false-raw in (omega arith, omega arith, omega arith)) c.list_all.ensures
+returns c =
+    record {
+      same = c.list_all.ensures.same;
+      lists = listed c.requires c.in_ok-judge.ensures (rw c.vertices-n.ensures at c.find_levels.ensures) (omega (arith, c.vertices-n.ensures))
+          (rw c.vertices-n.ensures at c.total_room.ensures) (c.fitting.ensures.right c.if-not-fitting.false) (rw c.vertices-n.ensures at c.list_all.ensures.lists);
+    }

@@ -1,12 +1,9 @@
-use Prim.Native.Nat.{◌≤◌, ◌-◌}
-use lib.ListN.{length, drop}
-use Rattle.paths.specs.Lists.{keep}
-use Rattle.components.specs.Entering.{leads, level_in}
-use Rattle.components.proofs.Putting.{Putting}
+use Rattle.components.specs.Front.{Same}
+use Rattle.components.proofs.Putting.{Loop}
 use Rattle.components.proofs.listing.enter_list.Given as goal
 
-abbrev pub invariant-loop-k : goal.invariant-loop-k
-invariant-loop-k l = Putting l.n l.c l.x l.distance l.branch l.met (keep (leads (level_in l.n l.initial.work) l.c l.back) l.list) l.initial.vertices l.initial.distances l.initial.branches l.initial.work (keep (leads (level_in l.n l.initial.work) l.c l.back) (drop l.k l.list)) l.vertices l.distances l.branches l.work l.count × (l.k ≤ length l.list)
-
-abbrev pub decreases-loop-k : goal.decreases-loop-k
-decreases-loop-k l = length l.list - l.k
+abbrev pub invariant-loop-y : goal.invariant-loop-y
+invariant-loop-y l =
+    Same l.initial.front l.front
+    × Loop l.graph.offsets.now l.graph.targets.now l.n l.c l.i l.initial.front.count l.initial.front.vertices.now l.initial.front.distances.now l.initial.front.branches.now l.initial.work
+    l.front.vertices.now l.front.distances.now l.front.branches.now l.work l.front.count l.y-index

@@ -1,28 +1,26 @@
-use native.Mathlib.Omega.{arith}
-use Prim.Native.Nat.{ℕ, ◌%◌}
 use mathlib.Core.Path.{sym, ap, ◌∙◌}
-use lib.ListN.{length}
-use Rattle.treefile.specs.Sections.{bytes_in}
-use Rattle.treefile.specs.Parsing.{shape_of}
-use Rattle.treefile.proofs.FileNumbers.{some_bytes}
-use Rattle.treefile.proofs.Places.{left_bad, tree_bad, queries_bad, queries-counted}
+use Rattle.treefile.specs.File.{TreeSections, after_tree, with_queries}
+use Rattle.treefile.specs.Sections.{words_in, parsed_in}
+use Rattle.treefile.proofs.Inputs.{left_bad, parse_whole}
 use Rattle.treefile.proofs.judge.judge.Goals as goal
 
-pub nonzero_rem-bytes : goal.nonzero_rem-bytes
-nonzero_rem-bytes c = omega (arith, c.bytes_in.ensures, some_bytes c.args.width)
+pub returns-then-words-bytes-ne0 : goal.returns-then-words-bytes-ne0
+returns-then-words-bytes-ne0 c = sym (left_bad _ _ (λ e. c.if-words-bytes-ne0.true (rw c.bytes.ensures e)))
 
-pub returns-then-bytes-bytes_in-ne0 : goal.returns-then-bytes-bytes_in-ne0
-returns-then-bytes-bytes_in-ne0 c =
-    c.bad_file.ensures ∙ sym (ap shape_of (left_bad (bytes_in c.args.width) c.args.bytes.now (λ e. c.if-bytes-bytes_in-ne0.true (ap (λ (k : ℕ). length c.args.bytes.now % k) c.bytes_in.ensures ∙ e))))
+pub returns-in_err-tree : goal.returns-in_err-tree
+returns-in_err-tree c =
+    ap parsed_in c.from_residual.ensures ∙ ap after_tree c.in_err-tree.ensures ∙ sym (parse_whole _ _ (rw c.bytes.ensures at c.if-words-bytes-ne0.false))
 
-pub returns-in_default : goal.returns-in_default
-returns-in_default c =
-    c.bad_file-in_default.ensures ∙ sym (ap shape_of (tree_bad (bytes_in c.args.width) c.args.bytes.now (sym (ap (λ (k : ℕ). length c.args.bytes.now % k) c.bytes_in.ensures) ∙ c.if-bytes-bytes_in-ne0.false) (sym c.in_default.is ∙ c.judge_tree-found.ensures)))
-
-pub returns-in_default-asked : goal.returns-in_default-asked
-returns-in_default-asked c =
-    c.bad_file-in_default-asked.ensures ∙ sym (ap shape_of (queries_bad (bytes_in c.args.width) c.args.bytes.now (sym (ap (λ (k : ℕ). length c.args.bytes.now % k) c.bytes_in.ensures) ∙ c.if-bytes-bytes_in-ne0.false) _ _ _ _ (sym c.in-Sections.is ∙ c.judge_tree-found.ensures) (sym c.in_default-asked.is ∙ c.judge_queries-asked.ensures)))
+pub returns-in_err-queries : goal.returns-in_err-queries
+returns-in_err-queries c =
+    let t = c.in_ok-tree.tree in
+    let s : TreeSections = record { offsets = words_in t.offsets; targets = words_in t.targets; root = t.root } in
+    ap parsed_in c.from_residual-in_err-queries.ensures ∙ ap (with_queries s) c.in_err-queries.ensures
+    ∙ ap after_tree c.in_ok-tree.ensures ∙ sym (parse_whole _ _ (rw c.bytes.ensures at c.if-words-bytes-ne0.false))
 
 pub returns : goal.returns
 returns c =
-    queries-counted (bytes_in c.args.width) c.args.bytes.now (sym (ap (λ (k : ℕ). length c.args.bytes.now % k) c.bytes_in.ensures) ∙ c.if-bytes-bytes_in-ne0.false) _ _ _ _ (sym c.in-Sections.is ∙ c.judge_tree-found.ensures) _ (sym c.in-Count.is ∙ c.judge_queries-asked.ensures)
+    let t = c.in_ok-tree.tree in
+    let s : TreeSections = record { offsets = words_in t.offsets; targets = words_in t.targets; root = t.root } in
+    ap (with_queries s) c.in_ok-queries.ensures
+    ∙ ap after_tree c.in_ok-tree.ensures ∙ sym (parse_whole _ _ (rw c.bytes.ensures at c.if-words-bytes-ne0.false))

@@ -1,15 +1,21 @@
-use Rattle.treereport.proofs.Telling.{line_room, told_refused, lines_ask, told_built}
 use native.Mathlib.Omega.{arith}
+use Rattle.treereport.proofs.Telling.{refused_code, answered_code, line_room, told_refused, lines_ask, told_built}
 use Rattle.treereport.proofs.report.report_tree.Goals as goal
 
-pub put_tree_line-next-requires : goal.put_tree_line-next-requires
-put_tree_line-next-requires c = line_room c.requires.file c.try_hld-code.result c.vertices.result c.args.root
+pub put_tree_line-requires : goal.put_tree_line-requires
+put_tree_line-requires c = line_room c.requires.file _ _ _
 
-pub returns-then-code-ne-DONE : goal.returns-then-code-ne-DONE
-returns-then-code-ne-DONE c = told_refused c.requires (omega arith) c.try_hld-code.ensures c.if-code-ne-DONE.true c.vertices.ensures c.put_tree_line-next.ensures
+pub returns-then-is_err : goal.returns-then-is_err
+returns-then-is_err c =
+    told_refused c.requires (omega arith) c.try_hld-built.ensures.builds (rw c.vertices.ensures at c.put_tree_line.ensures)
+    (refused_code c.try_hld-built.result c.if-is_err.ensures.value)
 
 pub put_queries-requires : goal.put_queries-requires
-put_queries-requires c = lines_ask c.requires (omega arith) c.try_hld-code.ensures c.if-code-ne-DONE.false c.vertices.ensures c.put_tree_line-next.ensures
+put_queries-requires c =
+    lines_ask c.requires (omega arith) c.try_hld-built.ensures.builds (rw c.vertices.ensures at c.put_tree_line.ensures)
+    (answered_code c.try_hld-built.result c.if-is_err.ensures.value)
 
 pub returns : goal.returns
-returns c = told_built c.requires (omega arith) c.try_hld-code.ensures c.if-code-ne-DONE.false c.vertices.ensures c.put_tree_line-next.ensures c.put_queries.ensures
+returns c =
+    told_built c.requires (omega arith) c.try_hld-built.ensures.builds (rw c.vertices.ensures at c.put_tree_line.ensures)
+    (answered_code c.try_hld-built.result c.if-is_err.ensures.value) c.put_queries.ensures

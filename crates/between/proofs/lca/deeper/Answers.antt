@@ -1,9 +1,0 @@
--- `between::deeper` meets its contract: the second where it is as deep, else the first.
-use borrow.Author.Tests.{le-leb, lt-leb}
-use Rattle.between.proofs.lca.deeper.Goals as goal
-
-pub returns-then-a-b : goal.returns-then-a-b
-returns-then-a-b c = rw (le-leb _ _ c.if-a-b.true)
-
-pub returns-else-a-b : goal.returns-else-a-b
-returns-else-a-b c = rw (lt-leb _ _ c.if-a-b.false)

@@ -1,6 +1,0 @@
--- `asked::relaypath_jump` meets its contract: it hands over what the query of its name answers.
-use Rattle.relaypath.proofs.Handing.{handed_as}
-use Rattle.relaypath.proofs.asked.relaypath_jump.Goals as goal
-
-pub returns : goal.returns
-returns c = handed_as c.jump-found.ensures c.hand.ensures

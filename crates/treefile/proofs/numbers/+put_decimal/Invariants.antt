@@ -1,5 +1,0 @@
--- The number that is left gets smaller.
-use Rattle.treefile.proofs.numbers.+put_decimal.Given as goal
-
-abbrev pub decreases-put_decimal : goal.decreases-put_decimal
-decreases-put_decimal l = l.x

@@ -1,9 +1,0 @@
--- The count stays within the buffer, which keeps its length.
-use Rattle.std.proofs.Common.{length, ◌-◌, ◌≤◌}
-use Rattle.treepaths.proofs.read_input.Given as goal
-
-abbrev pub invariant-loop-count : goal.invariant-loop-count
-invariant-loop-count g l = l.count ≤ length l.buffer
-
-abbrev pub decreases-loop-count : goal.decreases-loop-count
-decreases-loop-count g l = length l.initial.buffer - l.count
