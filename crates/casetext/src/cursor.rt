@@ -1,5 +1,5 @@
 // A cursor over a line. Each reading takes what it reads off the front, and where it reads nothing the cursor stays.
-ghost use Rattle.std.specs.Prelude.{◌≡◌, ◌+◌, ◌≤◌, length, IfSome, IfNone};
+ghost use Rattle.std.specs.Prelude.{◌≡◌, ◌+◌, ◌++◌, ◌≤◌, length, IfSome, IfNone};
 
 // The largest number, which is written `most`, or `none` where it says that there is none.
 const LARGEST: u32 = u32::MAX;
@@ -31,6 +31,7 @@ impl<'a> Cursor<'a> {
     // Takes these words, where they stand next.
     pub fn words(&mut self, expected: &[u8]) -> Option<()>
         ensures stays { IfNone result (self.new ≡ self.old) }
+        ensures taken { IfSome result (λ done. expected.now ++ self.new.rest.now ≡ self.old.rest.now) }
     {
         self.rest = self.rest.strip_prefix(expected)?;
         Some(())

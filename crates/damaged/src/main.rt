@@ -88,6 +88,8 @@ fn run_all(rt: &impl Print, text: &[u8]) -> io::Result<()> {
 
 fn main(rt: HostRuntime) -> io::Result<()> {
     let mut buffer = [0u8; MAX_SAMPLE];
-    let count = read_sample(&mut rt.stdin(), &mut buffer)?;
-    run_all(&rt, &buffer[..count])
+    match read_sample(&mut rt.stdin(), &mut buffer)? {
+        Some(count) => run_all(&rt, &buffer[..count]),
+        None => Ok(()),
+    }
 }

@@ -96,5 +96,5 @@ pub fn last_chain(kind: Kind, climb: Climb) -> Option<PathRange>
 pub fn last_count(last: Option<PathRange>) -> usize
     ensures { result ≡ length (last_list last) }
 {
-    if last.is_some() { 1 } else { 0 }
+    usize::from(last.is_some())
 }

@@ -2,7 +2,7 @@
 // the count of cases. Each program says by `Replay` how one case is run and counted, and prints its counts by `Display`.
 #![tactic(auto)]
 
-ghost use Rattle.std.specs.Prelude.{◌≡◌, ◌≤◌, ◌+◌, ◌*◌, ◌==◌, ◌++◌, length, IfSome, IfNone, IfOk, OnErr};
+ghost use Rattle.std.specs.Prelude.{◌≡◌, ◌≤◌, ◌<◌, ◌+◌, ◌*◌, ◌==◌, ◌++◌, length, IfSome, IfNone, IfOk, OnErr};
 
 use std::fmt::Display;
 use std::io;
@@ -86,8 +86,12 @@ pub fn replay_sample<R: Replay>(
     counts: &mut R,
 ) -> io::Result<()> {
     let mut buffer = [0u8; MAX_SAMPLE];
-    let count = read_sample(reader, &mut buffer)?;
-    match replay_cases(&buffer[..count], counts) {
+    let read = read_sample(reader, &mut buffer)?;
+    let replayed = match read {
+        Some(count) => replay_cases(&buffer[..count], counts),
+        None => None,
+    };
+    match replayed {
         Some(()) => print!(rt; "{counts}"),
         None => println!(rt; "the sample is malformed"),
     }
@@ -109,15 +113,15 @@ pub fn read_full<R: Read>(reader: &mut R, buffer: &mut [u8]) -> io::Result<usize
     Ok(count)
 }
 
-// Reads the sample to the front of the buffer and returns its length. Where the buffer is full there may be more, and the length is 0: no sample is
-// so short, so it counts as malformed. The one error is that of a read.
-pub fn read_sample<R: Read>(reader: &mut R, buffer: &mut [u8]) -> io::Result<usize>
-    ensures ok { IfOk result (λ count. count ≤ length buffer.new) }
+// Reads the sample to the front of the buffer and returns its length. Where the buffer is full there may be more, and no length is returned: what is
+// too long counts as malformed. The one error is that of a read.
+pub fn read_sample<R: Read>(reader: &mut R, buffer: &mut [u8]) -> io::Result<Option<usize>>
+    ensures ok { IfOk result (λ read. IfSome read (λ count. count < length buffer.new)) }
     ensures err { OnErr result (length buffer.new ≡ length buffer.old) }
 {
     let count = read_full(reader, buffer)?;
     if count == buffer.len() {
-        return Ok(0);
+        return Ok(None);
     }
-    Ok(count)
+    Ok(Some(count))
 }
