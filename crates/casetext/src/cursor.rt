@@ -1,5 +1,6 @@
 // A cursor over a line. Each reading takes what it reads off the front, and where it reads nothing the cursor stays.
 ghost use Rattle.std.specs.Prelude.{◌≡◌, ◌+◌, ◌++◌, ◌≤◌, length, IfSome, IfNone};
+ghost use Rattle.casetext.specs.Left.{left};
 
 // The largest number, which is written `most`, or `none` where it says that there is none.
 const LARGEST: u32 = u32::MAX;
@@ -16,14 +17,14 @@ pub struct Cursor<'a> {
 impl<'a> Cursor<'a> {
     // All of the line.
     pub fn new(line: &'a [u8]) -> Self
-        ensures { result.rest.now ≡ line.now }
+        ensures { left result ≡ line.now }
     {
         Cursor { rest: line }
     }
 
     // What is left.
     pub fn rest(&self) -> &'a [u8]
-        ensures { result.now ≡ self.now.rest.now }
+        ensures { result.now ≡ left self.now }
     {
         self.rest
     }
@@ -31,7 +32,7 @@ impl<'a> Cursor<'a> {
     // Takes these words, where they stand next.
     pub fn words(&mut self, expected: &[u8]) -> Option<()>
         ensures stays { IfNone result (self.new ≡ self.old) }
-        ensures taken { IfSome result (λ done. expected.now ++ self.new.rest.now ≡ self.old.rest.now) }
+        ensures taken { IfSome result (λ done. expected.now ++ left self.new ≡ left self.old) }
     {
         self.rest = self.rest.strip_prefix(expected)?;
         Some(())
@@ -40,7 +41,7 @@ impl<'a> Cursor<'a> {
     // Takes what stands up to the first such byte, and that byte.
     pub fn until(&mut self, byte: u8) -> Option<&'a [u8]>
         ensures stays { IfNone result (self.new ≡ self.old) }
-        ensures found { IfSome result (λ found. length found.now + length self.new.rest.now + 1 ≡ length self.old.rest.now) }
+        ensures found { IfSome result (λ found. length found.now + length (left self.new) + 1 ≡ length (left self.old)) }
     {
         let at = self.rest.iter().position(|x| *x == byte)?;
         let found = &self.rest[..at];

@@ -3,6 +3,7 @@
 #![tactic(auto)]
 
 ghost use Rattle.std.specs.Prelude.{◌≡◌, ◌≤◌, ◌<◌, ◌+◌, ◌*◌, ◌==◌, ◌++◌, length, IfSome, IfNone, IfOk, OnErr};
+ghost use Rattle.sample.specs.Left.{left};
 
 use std::fmt::Display;
 use std::io;
@@ -20,14 +21,14 @@ pub struct Sample<'a> {
 impl<'a> Sample<'a> {
     // All of the bytes.
     pub fn new(bytes: &'a [u8]) -> Self
-        ensures { result.rest.now ≡ bytes.now }
+        ensures { left result ≡ bytes.now }
     {
         Sample { rest: bytes }
     }
 
     // Whether nothing is left.
     pub fn is_empty(&self) -> bool
-        ensures { result ≡ (length self.now.rest.now == 0) }
+        ensures { result ≡ (length (left self.now) == 0) }
     {
         self.rest.is_empty()
     }
@@ -35,7 +36,7 @@ impl<'a> Sample<'a> {
     // The next number.
     pub fn number(&mut self) -> Option<u16>
         ensures stays { IfNone result (self.new ≡ self.old) }
-        ensures taken { IfSome result (λ number. length self.new.rest.now + 2 ≡ length self.old.rest.now) }
+        ensures taken { IfSome result (λ number. length (left self.new) + 2 ≡ length (left self.old)) }
     {
         let (bytes, rest) = self.rest.split_first_chunk()?;
         self.rest = rest;
@@ -44,7 +45,7 @@ impl<'a> Sample<'a> {
 
     // As many numbers as out has entries, to out. Where there are fewer, out has those.
     pub fn numbers(&mut self, out: &mut [u32]) -> Option<()>
-        ensures taken { IfSome result (λ done. length self.new.rest.now + 2 * length out.old ≡ length self.old.rest.now) }
+        ensures taken { IfSome result (λ done. length (left self.new) + 2 * length out.old ≡ length (left self.old)) }
     {
         for entry in out {
             *entry = u32::from(self.number()?);
@@ -55,7 +56,7 @@ impl<'a> Sample<'a> {
     // The next bytes, so many.
     pub fn bytes(&mut self, count: usize) -> Option<&'a [u8]>
         ensures stays { IfNone result (self.new ≡ self.old) }
-        ensures taken { IfSome result (λ bytes. bytes.now ++ self.new.rest.now ≡ self.old.rest.now) }
+        ensures taken { IfSome result (λ bytes. bytes.now ++ left self.new ≡ left self.old) }
         ensures found { IfSome result (λ bytes. length bytes.now ≡ count) }
     {
         let (bytes, rest) = self.rest.split_at_checked(count)?;
