@@ -24,6 +24,6 @@ pub fn print_head(rt: &impl Print, case: &[u8]) -> io::Result<()> {
 
 // Prints a line that does not follow the grammar, and that it does not.
 pub fn print_malformed(rt: &impl Print, line: &[u8]) -> io::Result<()> {
-    print_head(rt, line)?;
-    println!(rt; "malformed")
+    rt.write_all(line)?;
+    rt.write_all(b": malformed\n")
 }

@@ -48,7 +48,7 @@ fn one_list(offsets: &mut [u32], end: u32) {
 }
 
 // Reads a graph whose offsets and targets stand next.
-fn given<'r>(cursor: &mut Cursor, room: Room<'r>) -> Option<Graph<'r>> {
+fn given<'r>(cursor: &mut Cursor, room: Room<'r>) -> Option<Graph<'r, 'r>> {
     let offsets = cursor.numbers(room.offsets);
     cursor.words(b" targets")?;
     let targets = cursor.numbers(room.targets);
@@ -56,7 +56,7 @@ fn given<'r>(cursor: &mut Cursor, room: Room<'r>) -> Option<Graph<'r>> {
 }
 
 // Makes the path of so many vertices.
-fn path<'r>(vertices: usize, entries: usize, room: Room<'r>) -> Option<Graph<'r>> {
+fn path<'r>(vertices: usize, entries: usize, room: Room<'r>) -> Option<Graph<'r, 'r>> {
     let offsets = room.offsets.get_mut(..=vertices)?;
     let targets = room.targets.get_mut(..entries)?;
     path_offsets(offsets, vertices);
@@ -65,7 +65,7 @@ fn path<'r>(vertices: usize, entries: usize, room: Room<'r>) -> Option<Graph<'r>
 }
 
 // Makes the graph of so many vertices with one list, which has the target so many times.
-fn list<'r>(vertices: usize, target: u32, times: u32, room: Room<'r>) -> Option<Graph<'r>> {
+fn list<'r>(vertices: usize, target: u32, times: u32, room: Room<'r>) -> Option<Graph<'r, 'r>> {
     let offsets = room.offsets.get_mut(..=vertices)?;
     let targets = room.targets.get_mut(..times as usize)?;
     one_list(offsets, times);
@@ -74,7 +74,7 @@ fn list<'r>(vertices: usize, target: u32, times: u32, room: Room<'r>) -> Option<
 }
 
 // Reads or makes the graph that stands next. None where none does, or the room is too small for it.
-pub fn read_graph<'r>(cursor: &mut Cursor, room: Room<'r>) -> Option<Graph<'r>> {
+pub fn read_graph<'r>(cursor: &mut Cursor, room: Room<'r>) -> Option<Graph<'r, 'r>> {
     if cursor.words(b"offsets").is_some() {
         return given(cursor, room);
     }

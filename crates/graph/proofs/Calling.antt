@@ -3,7 +3,7 @@ use Prim.Native.Nat.{ℕ, ◌≤◌}
 use native.Mathlib.Omega.{arith}
 use native.Mathlib.Decide.{ℕ_discrete}
 use mathlib.Core.Path.{◌≡◌, refl, sym, subst, ◌∙◌}
-use mathlib.Core.Logic.{inl, inr, by_cases, ◌↔◌}
+use mathlib.Core.Logic.{inl, inr, by_cases, ◌≢◌, ◌↔◌}
 use mathlib.Core.Bool.{Bool, true}
 use mathlib.Core.List.{List, []}
 use lib.ListN.{length}
@@ -39,38 +39,47 @@ no_tables = (λ s. record { sized = s; tables = refl }, λ f. f.sized)
 pub still_begun : {os ts w w₁ : List ℕ} → Begun os ts w → Only 0 (room_of os ts) w w₁ → Begun os ts w₁
 still_begun b o = record { sized = b.sized; room = (let r = b.room in let l = o.same_length in omega arith) }
 
--- after `begin` refused nothing, told of the tables by b, these fit
-pub begun_fits : {os ts : List ℕ} {b : Bool} {roomy : Type 0} → First (opening (Fits os ts (b ≡ true)) roomy []) done → Fits os ts (b ≡ true)
-begun_fits (inl p) = absurd (let e = p.1 in omega arith)
-begun_fits (inr p) = p.0
+-- after `begin` answered 0, told of the tables by b, these fit
+pub begun_fits : {os ts : List ℕ} {b : Bool} {roomy : Type 0} {c : ℕ} → First (opening (Fits os ts (b ≡ true)) roomy []) c → c ≡ done
+    → Fits os ts (b ≡ true)
+begun_fits (inl p) z = absurd (let e = p.1 in omega arith)
+begun_fits (inr p) z = p.0
 
 -- and work is long enough
-pub begun : {os ts w : List ℕ} {b : Bool} → First (opening (Fits os ts (b ≡ true)) (room_of os ts ≤ length w) []) done → Begun os ts w
-begun (inl p) = absurd (let e = p.1 in omega arith)
-begun (inr (f, inl p)) = absurd (let e = p.1 in omega arith)
-begun (inr (f, inr p)) = record { sized = f.sized; room = p.0 }
+pub begun : {os ts w : List ℕ} {b : Bool} {c : ℕ} → First (opening (Fits os ts (b ≡ true)) (room_of os ts ≤ length w) []) c → c ≡ done → Begun os ts w
+begun (inl p) z = absurd (let e = p.1 in omega arith)
+begun (inr (f, inl p)) z = absurd (let e = p.1 in omega arith)
+begun (inr (f, inr p)) z = record { sized = f.sized; room = p.0 }
 
 -- a call that `begin` refuses leaves all as it was
 pub not_begun :
+    {M : Type 0} {os ts : List ℕ} {fits roomy : Type 0} {rest : List Test} {Written : M → Type 0} {lent : M} {w : List ℕ} {b : Bool} {c : ℕ}
+    → fits ↔ Fits os ts (b ≡ true) → (roomy → room_of os ts ≤ length w)
+    → First (opening (Fits os ts (b ≡ true)) (room_of os ts ≤ length w) []) c → c ≢ done
+    → GraphCall os ts fits (opening fits roomy rest) Written lent lent w w c
+not_begun told enough (inl p) ne =
+    record {
+      code = inl ((λ f. p.0 (told.0 f)), p.1);
+      written = λ z. absurd (ne z);
+      refused = λ d. refl;
+      work = record { zeroed = λ f r. absurd (p.0 (told.0 f)); kept = λ k. refl };
+    }
+not_begun told enough (inr (f, inl p)) ne =
+    record {
+      code = inr (told.1 f, inl ((λ r. p.0 (enough r)), p.1));
+      written = λ z. absurd (ne z);
+      refused = λ d. refl;
+      work = record { zeroed = λ f r. absurd (p.0 r); kept = λ k. refl };
+    }
+not_begun told enough (inr (f, inr p)) ne = absurd (ne p.1)
+
+-- and one that it refuses by name
+pub refused_at_once :
     {M : Type 0} {os ts : List ℕ} {fits roomy : Type 0} {rest : List Test} {Written : M → Type 0} {lent : M} {w : List ℕ} {b : Bool}
     → fits ↔ Fits os ts (b ≡ true) → (roomy → room_of os ts ≤ length w) → (r : Refusal)
     → First (opening (Fits os ts (b ≡ true)) (room_of os ts ≤ length w) []) (refusal_code r)
     → GraphCall os ts fits (opening fits roomy rest) Written lent lent w w (refusal_code r)
-not_begun told enough r (inl p) =
-    record {
-      code = inl ((λ f. p.0 (told.0 f)), p.1);
-      written = λ z. absurd (refused_code r z);
-      refused = λ d. refl;
-      work = record { zeroed = λ f r. absurd (p.0 (told.0 f)); kept = λ k. refl };
-    }
-not_begun told enough r (inr (f, inl p)) =
-    record {
-      code = inr (told.1 f, inl ((λ r. p.0 (enough r)), p.1));
-      written = λ z. absurd (refused_code r z);
-      refused = λ d. refl;
-      work = record { zeroed = λ f r. absurd (p.0 r); kept = λ k. refl };
-    }
-not_begun told enough r (inr (f, inr p)) = absurd (refused_code r p.1)
+refused_at_once told enough r first = not_begun told enough first (refused_code r)
 
 -- a call that was begun, went on and ended with `finish`
 pub whole_call :

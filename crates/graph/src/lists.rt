@@ -6,11 +6,11 @@ ghost use Rattle.graph.specs.Validation.{Sized, room_of};
 
 use answers::limits::{MAX_TARGETS, MAX_VERTICES};
 
-// A graph as two lent slices, of any lengths and with any entries.
+// A graph as two lent slices, of any lengths and with any entries. They are lent apart: a list is a part of the targets, and may outlive the offsets.
 #[derive(Clone, Copy)]
-pub struct Graph<'a> {
-    pub offsets: &'a [u32],
-    pub targets: &'a [u32],
+pub struct Graph<'o, 't> {
+    pub offsets: &'o [u32],
+    pub targets: &'t [u32],
 }
 
 // Whether what held so far still does: that a is at most b. A loop that goes on to its end whatever it finds lets the compiler look at several entries at
@@ -24,7 +24,7 @@ fn still(held: bool, a: usize, b: usize) -> bool
     held
 }
 
-impl<'a> Graph<'a> {
+impl<'o, 't> Graph<'o, 't> {
     // The number of vertices that the offsets speak of, 0 where there are none.
     pub fn vertices(&self) -> usize
         ensures { result ≡ vertices_of self.now.offsets.now }
@@ -34,7 +34,7 @@ impl<'a> Graph<'a> {
 
     // The list of the vertex u as a part of the caller's targets: the targets from offset u up to offset u + 1, and empty where u or its
     // offsets are out of range or fall.
-    pub fn neighbours(&self, u: usize) -> &'a [u32]
+    pub fn neighbours(&self, u: usize) -> &'t [u32]
         ensures { result.now ≡ list_of self.now.offsets.now self.now.targets.now u }
     {
         let none = &self.targets[..0];
@@ -62,6 +62,9 @@ impl<'a> Graph<'a> {
         requires { 1 ≤ vertices_of self.now.offsets.now }
         ensures { Decides (Offsets self.now.offsets.now self.now.targets.now) result }
     {
+        if self.offsets[0] != 0 {
+            return false;
+        }
         let n = self.vertices();
         let mut rises = true;
         for u in 0..n {
@@ -71,7 +74,7 @@ impl<'a> Graph<'a> {
                 self.offsets[u + 1] as usize,
             );
         }
-        rises && self.offsets[0] == 0 && self.offsets[n] as usize == self.targets.len()
+        rises && self.offsets[n] as usize == self.targets.len()
     }
 
     // Whether every target is a vertex.

@@ -23,6 +23,7 @@ fn write_last(ranges: &mut [u32], slot: usize, last: Option<PathRange>)
 
 // Climbs from p and q once more and writes the `count` ranges of their path: the u side from the front, the v side from the back. The first
 // climb has met every refusal, so neither side is lost here.
+#[inline(always)]
 pub(crate) fn write_path(
     kind: Kind,
     tables: &Tables,

@@ -1,4 +1,4 @@
--- The loops of `turn_list` and `turn` over work: each invariant holds at the start and after each turn, and gives the answer at the end.
+-- The loops of `start_cursors`, `turn_list` and `turn` over work: each invariant holds at the start and after each turn, and gives the answer at the end.
 use Prim.Native.Nat.{ℕ, ◌+◌, ◌≤◌, ◌<◌}
 use native.Mathlib.Omega.{arith}
 use mathlib.Core.Path.{◌≡◌, sym, subst, ◌∙◌}
@@ -6,12 +6,36 @@ use mathlib.Core.Bool.{true, false, true≢false, false≢true}
 use mathlib.Core.List.{List}
 use lib.ListN.{length, set, length-set}
 use Rattle.sums.specs.Sum.{at}
+use Rattle.sums.proofs.Sums.{equal_or_not}
 use Rattle.graph.proofs.Frames.{only_refl, only_trans, only_set, at_set_same, at_set_other}
 use Rattle.symmetry.specs.Symmetry.{SymmetryAsks}
-use Rattle.symmetry.specs.Inner.{Starts, Turning, cursor, turned, TurnAsks, TurnAnswers, ListAnswers, TurnLoop}
+use Rattle.symmetry.specs.Inner.{Starts, Turning, cursor, turned, StartAsks, StartAnswers, Starting, TurnAsks, TurnAnswers, ListAnswers, TurnLoop}
 use Rattle.symmetry.proofs.Lists.{lent_starts, lent_inside}
 use Rattle.symmetry.proofs.Passes.{InHand, pass_starts, pass_next, pass_steps, pass-ends}
 use Rattle.symmetry.proofs.Refusals.{full_refutes}
+
+-- no cursor is set yet
+pub start_start : (os : List ℕ) (n base : ℕ) (w : List ℕ) → Starting os n base w w 0
+start_start os n base w = record { in_range = omega arith; at_start = λ x h. absurd (omega arith); only = only_refl base (base + n) w }
+
+module _ {os : List ℕ} {n base : ℕ} {w₀ w : List ℕ} {u : ℕ} where
+  -- one cursor more is set
+  pub start_step : StartAsks os n base w₀ → Starting os n base w₀ w u → u < n → Starting os n base w₀ (set w (base + u) (at os u)) (u + 1)
+  start_step a i h =
+      record {
+        in_range = omega arith;
+        at_start =
+            λ x b.
+            equal_or_not x u
+            (λ s. subst (λ (z : ℕ). at (set w (base + u) (at os u)) (base + z) ≡ at os z) (sym s)
+            (at_set_same w (base + u) (at os u) (omega (arith, a.room, i.only.same_length))))
+            (λ d. at_set_other w (base + u) (at os u) (base + x) (omega arith) ∙ i.at_start x (omega arith));
+        only = only_trans i.only (only_set w (base + u) (at os u) (omega arith) (omega arith));
+      }
+
+  -- all are set
+  pub start-done : Starting os n base w₀ w u → n ≤ u → StartAnswers os n base w₀ w
+  start-done i h = record { at_start = λ x b. i.at_start x (omega arith); only = i.only }
 
 -- nothing is turned yet
 pub turn_start : {os ts : List ℕ} {n base : ℕ} {w : List ℕ} → TurnAsks os ts n base w → TurnLoop os ts n base w w 0 (at os 0)

@@ -71,6 +71,12 @@ pub record StartAnswers (os : List ℕ) (n base : ℕ) (w w' : List ℕ) : Type 
   pub at_start : AtStart os n base w'
   pub only : Only base (base + n) w w'
 
+-- the loop's invariant, w₀ being work where it begins: the cursors below u are set
+pub record Starting (os : List ℕ) (n base : ℕ) (w₀ w : List ℕ) (u : ℕ) : Type 0 where
+  pub in_range : u ≤ n
+  pub at_start : (x : ℕ) → x < u → cursor base w x ≡ at os x
+  pub only : Only base (base + n) w₀ w
+
 -- `turn`: sound lists, and each cursor at its start
 pub record TurnAsks (os ts : List ℕ) (n base : ℕ) (w : List ℕ) : Type 0 where
   pub asks : SymmetryAsks os ts n base w

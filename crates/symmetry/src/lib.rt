@@ -14,7 +14,9 @@ fn start_cursors(offsets: &[u32], n: usize, base: usize, work: &mut [u32])
     requires { StartAsks offsets.now n base work.old }
     ensures { StartAnswers offsets.now n base work.old work.new }
 {
-    work[base..base + n].copy_from_slice(&offsets[..n]);
+    for u in 0..n {
+        work[base + u] = offsets[u];
+    }
 }
 
 // Puts u at x's cursor for each entry x of the list of u, in order, and moves the cursor; false where x's list is full.

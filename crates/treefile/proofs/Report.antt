@@ -18,7 +18,7 @@ use Rattle.ranges.specs.declared.kinds.Kind.TheVariants.{Vertices, Edges, Both}
 use Rattle.ranges.specs.declared.kinds.PathRange.{PathRange}
 use Rattle.treefile.specs.declared.query.Query.{Query}
 use Rattle.treefile.specs.File.{TreeFile, max_queries}
-use Rattle.treefile.specs.Report.{decimal, space, newline, fields, letter, range_text, ranges_text, number_text, list_text, answer_text, query_line, query_lines, tree_word, tree_line, file_report}
+use Rattle.treefile.specs.Report.{decimal, space, newline, fields, letter, range_text, ranges_text, number_text, list_text, answer_text, query_line, query_lines, tree_word, built_text, tree_line, file_report}
 use Rattle.treefile.specs.Flat.{Low, Short, ShortLists, query_head}
 use Rattle.treefile.specs.Sizes.{most_digits, file_ranges, range_digits, range_size, answer_size, line_size, tree_size, report_size}
 use Rattle.treefile.proofs.Digits.{decimal_digits, decimal_room}
@@ -30,6 +30,13 @@ tree_refused code n root ne = rw (ne_eqb code 0 ne)
 
 pub tree_built : (code n root : ℕ) → code ≡ 0 → tree_line code n root ≡ tree_word ++ (fields (0 ∷ n ∷ root ∷ []) ++ newline)
 tree_built code n root e = rw (eq-eqb code 0 e)
+
+-- and what stands between its word and its end
+pub refused_text : (code n root : ℕ) → (code ≡ 0 → ⊥) → built_text code n root ≡ decimal code
+refused_text code n root ne = rw (ne_eqb code 0 ne)
+
+pub accepted_text : (code n root : ℕ) → code ≡ 0 → built_text code n root ≡ fields (0 ∷ n ∷ root ∷ [])
+accepted_text code n root e = rw (eq-eqb code 0 e)
 
 -- a query's line is its head, its answer and the end of the line
 pub query_line_lem : (t : Six) (place : ℕ) (q : Query) → query_line t place q ≡ query_head place q.kind ++ (answer_text t q ++ newline)

@@ -10,11 +10,11 @@ use Rattle.treefile.specs.declared.page.Page.{Page}
 use Rattle.treefile.specs.Writing.{Room, Puts, Prints}
 
 -- a text in two parts is put part by part
-sets-append : (s t out : List ℕ) (i : ℕ) → sets out i (s ++ t) ≡ sets (sets out i s) (i + length s) t
+pub sets-append : (s t out : List ℕ) (i : ℕ) → sets out i (s ++ t) ≡ sets (sets out i s) (i + length s) t
 sets-append [] t out i = rw add-zero
 sets-append (b ∷ s) t out i = sets-append s t (set out i b) (suc i) ∙ ap (λ (k : ℕ). sets (sets (set out i b) (suc i) s) k t) (suc-add i (length s) ∙ sym (add-suc i (length s)))
 
-puts_then : {s t out out₁ out₂ : List ℕ} {at m r : ℕ} → Puts s at out out₁ m → Puts t m out₁ out₂ r → Puts (s ++ t) at out out₂ r
+pub puts_then : {s t out out₁ out₂ : List ℕ} {at m r : ℕ} → Puts s at out out₁ m → Puts t m out₁ out₂ r → Puts (s ++ t) at out out₂ r
 puts_then {s} {t} {out} {out₁} {out₂} {at} {m} {r} p q =
     record {
       bytes = q.bytes ∙ ap (λ (l : List ℕ). sets l m t) p.bytes ∙ ap (λ (k : ℕ). sets (sets out at s) k t) p.next ∙ sym (sets-append s t out at);

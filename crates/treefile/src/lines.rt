@@ -1,11 +1,10 @@
 // The lines of a report.
-ghost use Rattle.answers.specs.Answers.{code_of};
 ghost use Rattle.treefile.specs.Report.{bad_report, number_text, built_text, tree_line};
 ghost use Rattle.treefile.specs.Flat.{listed_text, ListRoom, query_head};
 ghost use Rattle.treefile.specs.Writing.{Room, Prints};
 
 use crate::page::Page;
-use answers::answer::{Answer, Listed, Refusal};
+use answers::answer::{Answer, Listed};
 
 impl<'a> Page<'a> {
     // A query's code, and its number where it has one.
@@ -35,27 +34,26 @@ impl<'a> Page<'a> {
     }
 
     // The code of a build, and for code 0 the number of vertices and the root of its tree.
-    fn put_built(&mut self, built: Result<(), Refusal>, n: usize, root: usize)
-        requires { Room (built_text (code_of built) n root) self.old }
-        ensures { Prints (built_text (code_of built) n root) self.old self.new }
+    fn put_built(&mut self, code: u32, n: usize, root: usize)
+        requires { Room (built_text code n root) self.old }
+        ensures { Prints (built_text code n root) self.old self.new }
     {
-        match built {
-            Ok(()) => {
-                self.put_decimal(0);
-                self.put_next(n);
-                self.put_next(root);
-            }
-            Err(refusal) => self.put_decimal(refusal.code() as usize),
+        if code != 0 {
+            self.put_decimal(code as usize);
+            return;
         }
+        self.put_decimal(0);
+        self.put_next(n);
+        self.put_next(root);
     }
 
-    // The line of a tree.
-    pub fn put_tree_line(&mut self, built: Result<(), Refusal>, n: usize, root: usize)
-        requires { Room (tree_line (code_of built) n root) self.old }
-        ensures { Prints (tree_line (code_of built) n root) self.old self.new }
+    // The line of a tree: its code, whatever it is, and for code 0 its number of vertices and its root.
+    pub fn put_tree_line(&mut self, code: u32, n: usize, root: usize)
+        requires { Room (tree_line code n root) self.old }
+        ensures { Prints (tree_line code n root) self.old self.new }
     {
         self.put_bytes(b"tree ");
-        self.put_built(built, n, root);
+        self.put_built(code, n, root);
         self.put_byte(b'\n');
     }
 

@@ -93,7 +93,7 @@ pub few_vertices : {f : TreeFile} {page : Page} → FileAsks f page → vertices
 unfolding max_offsets
 few_vertices a = omega (arith, a.few_offsets)
 
-work_room_lem : {f : TreeFile} {page : Page} → FileAsks f page → room_of f.tree.offsets f.tree.targets ≤ 10_240
+pub work_room_lem : {f : TreeFile} {page : Page} → FileAsks f page → room_of f.tree.offsets f.tree.targets ≤ 10_240
 unfolding max_offsets max_file_targets
 work_room_lem a = omega (arith, a.few_offsets, a.few_targets)
 

@@ -3,6 +3,7 @@ ghost use Rattle.tables.specs.Tables.{six_mut};
 ghost use Rattle.treereport.specs.Reports.{Reports};
 ghost use Rattle.treereport.specs.Filing.{file_of, TreeAsks, FileAsks, Filed};
 
+use answers::answer::code_of;
 use graph::lists::Graph;
 use hld::build::try_hld;
 use querylines::lines::put_queries;
@@ -21,7 +22,7 @@ const MAX_VERTICES: usize = 1_024;
 // A well-formed file: its tree, from the root, and its queries.
 #[derive(Clone, Copy)]
 pub struct File<'a> {
-    pub graph: Graph<'a>,
+    pub graph: Graph<'a, 'a>,
     pub root: usize,
     pub queries: &'a [Query],
 }
@@ -33,7 +34,7 @@ fn report_tree(file: &File, mut tables: TablesMut, page: &mut Page)
 {
     let mut work = [0u32; 8 * MAX_VERTICES + MAX_TARGETS];
     let built = try_hld(&file.graph, file.root, &mut tables, &mut work);
-    page.put_tree_line(built, file.graph.vertices(), file.root);
+    page.put_tree_line(code_of(built), file.graph.vertices(), file.root);
     if built.is_err() {
         return;
     }
