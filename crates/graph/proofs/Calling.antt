@@ -8,14 +8,12 @@ use mathlib.Core.Bool.{Bool, true}
 use mathlib.Core.List.{List, []}
 use lib.ListN.{length}
 use Rattle.answers.specs.Codes.{done}
-use Rattle.answers.specs.Answers.{refusal_code}
-use Rattle.answers.specs.declared.answer.Refusal.{Refusal}
 use Rattle.graph.specs.Judgement.{Test, First, Decides}
 use Rattle.graph.specs.Validation.{Sized, Fits, room_of, opening, GraphCall}
 use Rattle.graph.specs.Steps.{Begun, GraphPart}
 use Rattle.graph.specs.Work.{Only, Zeroed}
 use Rattle.graph.proofs.Frames.{zeroed-cleared}
-use Rattle.graph.proofs.Judging.{first_one, leaves-one, sized?, decides_true, refused_code}
+use Rattle.graph.proofs.Judging.{first_one, leaves-one, sized?, decides_true}
 
 -- whether the sizes and the tables fit
 pub fits? : (os ts : List ℕ) {long : Type 0} → Dec long → Dec (Fits os ts long)
@@ -72,14 +70,6 @@ not_begun told enough (inr (f, inl p)) ne =
       work = record { zeroed = λ f r. absurd (p.0 r); kept = λ k. refl };
     }
 not_begun told enough (inr (f, inr p)) ne = absurd (ne p.1)
-
--- and one that it refuses by name
-pub refused_at_once :
-    {M : Type 0} {os ts : List ℕ} {fits roomy : Type 0} {rest : List Test} {Written : M → Type 0} {lent : M} {w : List ℕ} {b : Bool}
-    → fits ↔ Fits os ts (b ≡ true) → (roomy → room_of os ts ≤ length w) → (r : Refusal)
-    → First (opening (Fits os ts (b ≡ true)) (room_of os ts ≤ length w) []) (refusal_code r)
-    → GraphCall os ts fits (opening fits roomy rest) Written lent lent w w (refusal_code r)
-refused_at_once told enough r first = not_begun told enough first (refused_code r)
 
 -- a call that was begun, went on and ended with `finish`
 pub whole_call :

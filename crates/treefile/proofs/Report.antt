@@ -24,19 +24,19 @@ use Rattle.treefile.specs.Sizes.{most_digits, file_ranges, range_digits, range_s
 use Rattle.treefile.proofs.Digits.{decimal_digits, decimal_room}
 use native.Mathlib.Nat.{add-zero}
 
--- the line of a refused tree, and of another
-pub tree_refused : (code n root : ℕ) → (code ≡ 0 → ⊥) → tree_line code n root ≡ tree_word ++ (decimal code ++ newline)
-tree_refused code n root ne = rw (ne_eqb code 0 ne)
-
-pub tree_built : (code n root : ℕ) → code ≡ 0 → tree_line code n root ≡ tree_word ++ (fields (0 ∷ n ∷ root ∷ []) ++ newline)
-tree_built code n root e = rw (eq-eqb code 0 e)
-
--- and what stands between its word and its end
+-- what the line of a tree says of a refused one, and of another
 pub refused_text : (code n root : ℕ) → (code ≡ 0 → ⊥) → built_text code n root ≡ decimal code
 refused_text code n root ne = rw (ne_eqb code 0 ne)
 
 pub accepted_text : (code n root : ℕ) → code ≡ 0 → built_text code n root ≡ fields (0 ∷ n ∷ root ∷ [])
 accepted_text code n root e = rw (eq-eqb code 0 e)
+
+-- and the whole line
+pub tree_refused : (code n root : ℕ) → (code ≡ 0 → ⊥) → tree_line code n root ≡ tree_word ++ (decimal code ++ newline)
+tree_refused code n root ne = ap (λ (l : List ℕ). tree_word ++ (l ++ newline)) (refused_text code n root ne)
+
+pub tree_built : (code n root : ℕ) → code ≡ 0 → tree_line code n root ≡ tree_word ++ (fields (0 ∷ n ∷ root ∷ []) ++ newline)
+tree_built code n root e = ap (λ (l : List ℕ). tree_word ++ (l ++ newline)) (accepted_text code n root e)
 
 -- a query's line is its head, its answer and the end of the line
 pub query_line_lem : (t : Six) (place : ℕ) (q : Query) → query_line t place q ≡ query_head place q.kind ++ (answer_text t q ++ newline)

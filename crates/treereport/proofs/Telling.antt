@@ -10,8 +10,8 @@ use borrow.Author.Tests.{eq-eqb, ne_eqb}
 use Rattle.std.specs.Prelude.{Result, Ok, Err, is_err}
 use Rattle.answers.specs.Answers.{code_of}
 use Rattle.answers.specs.declared.answer.Refusal.{Refusal}
-use Rattle.answers.specs.declared.answer.Refusal.TheVariants.{BadSize, NoRoom, BadOffsets, BadVertex, BadRoot, NotSymmetric, Disconnected, HasCycle, BadTable, TooFar}
 use Rattle.graph.specs.Lent.{vertices}
+use Rattle.graph.proofs.Judging.{refused_code as never_done}
 use Rattle.tables.specs.Tables.{Six}
 use Rattle.hld.specs.Build.{Builds}
 use Rattle.answers.specs.Choice.{pick}
@@ -45,16 +45,7 @@ built-report code t f e = ap (λ (b : Bool). line_of code f ++ pick b (query_lin
 -- a refusal has a code of its own, and what is answered has 0
 pub refused_code : (r : Result Unit Refusal) → true ≡ is_err r → code_of r ≡ 0 → ⊥
 refused_code (Ok x) e z = cc
-refused_code (Err BadSize) e z = omega arith
-refused_code (Err NoRoom) e z = omega arith
-refused_code (Err BadOffsets) e z = omega arith
-refused_code (Err BadVertex) e z = omega arith
-refused_code (Err BadRoot) e z = omega arith
-refused_code (Err NotSymmetric) e z = omega arith
-refused_code (Err Disconnected) e z = omega arith
-refused_code (Err HasCycle) e z = omega arith
-refused_code (Err BadTable) e z = omega arith
-refused_code (Err TooFar) e z = omega arith
+refused_code (Err r) e z = never_done r z
 
 pub answered_code : (r : Result Unit Refusal) → false ≡ is_err r → code_of r ≡ 0
 answered_code (Ok x) e = refl
